@@ -2,16 +2,10 @@
 -- Simple', section 2.2. Own rule: a desk promises and votes at its log's length alone, so that the
 -- log has no gap.
 use Rattle.std.specs.Prelude.{ℕ, if◌then◌else◌, Option, Some, None, ◌==◌, option_map}
-use Rattle.acceptor.specs.declared.ballot.Ballot.{Ballot}
-use Rattle.acceptor.specs.declared.entry.Entry.{Entry}
-use Rattle.acceptor.specs.declared.message.Report.{Report}
-use Rattle.acceptor.specs.declared.message.Body.{Body}
+use Rattle.acceptor.specs.declared.{ballot.Ballot.Ballot, entry.Entry.Entry, steps.LogView.LogView}
+use Rattle.acceptor.specs.declared.message.{Report.Report, Body.Body, Body.TheVariants.Behind}
 use Rattle.acceptor.specs.declared.message.Body.TheVariants.{Promise, Accepted, Nack, Decided}
-use Rattle.acceptor.specs.declared.message.Body.TheVariants.{Behind}
-use Rattle.acceptor.specs.declared.steps.LogView.{LogView}
-use Rattle.acceptor.specs.declared.stored.Vote.{Vote}
-use Rattle.acceptor.specs.declared.stored.Stored.{Stored}
-use Rattle.acceptor.specs.declared.stored.Change.{Change}
+use Rattle.acceptor.specs.declared.stored.{Vote.Vote, Stored.Stored, Change.Change}
 use Rattle.acceptor.specs.declared.stored.Change.TheVariants.{Promised, Voted}
 use Rattle.acceptor.specs.Ballots.{is_below}
 

@@ -1,8 +1,7 @@
 -- What is sent, by whom and to whom ('Paxos Made Simple', sections 2.2 and 2.3).
 use Rattle.std.specs.Prelude.{ℕ, zero, suc, ◌≡◌, ◌⊎◌, Bool, if◌then◌else◌, List, [], ◌∷◌, ◌==◌}
 use Rattle.std.specs.List.{list_any}
-use Rattle.acceptor.specs.declared.message.Body.{Body}
-use Rattle.acceptor.specs.declared.message.Message.{Message}
+use Rattle.acceptor.specs.declared.message.{Body.Body, Message.Message}
 
 -- from one desk to another
 abbrev pub message : ℕ → ℕ → Body → Message

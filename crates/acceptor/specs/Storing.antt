@@ -1,9 +1,7 @@
 -- What a desk keeps in stable storage ('Paxos Made Simple', section 2.5), and what a change leaves
 -- there.
 use Rattle.std.specs.Prelude.{List, [], ◌∷◌, ◌++◌, Option, Some, None}
-use Rattle.acceptor.specs.declared.entry.Entry.{Entry}
-use Rattle.acceptor.specs.declared.stored.Stored.{Stored}
-use Rattle.acceptor.specs.declared.stored.Change.{Change}
+use Rattle.acceptor.specs.declared.{entry.Entry.Entry, stored.Stored.Stored, stored.Change.Change}
 use Rattle.acceptor.specs.declared.stored.Change.TheVariants.{Promised, Voted, Tried, Appended}
 use Rattle.acceptor.specs.Ballots.{no_ballot}
 
@@ -21,8 +19,5 @@ stored_after s (Some (Appended e)) = s
 
 -- only an appended entry changes the log
 abbrev pub log_after : List Entry → Option Change → List Entry
-log_after log None = log
-log_after log (Some (Promised b)) = log
-log_after log (Some (Voted v)) = log
-log_after log (Some (Tried r)) = log
 log_after log (Some (Appended e)) = log ++ e ∷ []
+log_after log _ = log

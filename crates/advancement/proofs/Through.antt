@@ -3,30 +3,23 @@ use Rattle.std.proofs.Common.{◌≡◌, ℕ, ◌+◌, ◌<◌, ◌≤◌, ◌==
 use Rattle.std.proofs.Common.{not, ◌||◌, ◌&&◌, List, [], ◌∷◌, length, map, find, count_by}
 use Rattle.std.proofs.Common.{slice_get, is_some, Option, None, Some, ◌⊎◌, inl, inr, suc, refl, sym}
 use Rattle.std.proofs.Common.{ap, ◌∙◌, arith}
-use Rattle.std.specs.List.{list_any}
-use Rattle.std.specs.Option.{option_map}
+use Rattle.std.{specs.List.list_any, specs.Option.option_map, proofs.lemmas.Option.slice_get-map}
 use Rattle.std.proofs.lemmas.Bool.{false≢true}
-use Rattle.std.proofs.lemmas.Bool.Decides.{nat_tests}
-use Rattle.std.proofs.lemmas.List.Sums.{count_by-le-length}
-use Rattle.std.proofs.lemmas.Option.{slice_get-map}
-use Rattle.attempts.specs.declared.Value.{Value}
-use Rattle.attempts.specs.declared.Value.TheVariants as value
-use Rattle.attempts.specs.declared.Unit.{Unit as Measure}
-use Rattle.formats.specs.declared.events.Format.{Format}
-use Rattle.formats.specs.declared.events.Format.TheVariants.{Ao5, Mo3, Bo1, Bo2, Bo3}
-use Rattle.formats.specs.declared.results.Averaged.TheVariants.{Missing}
+use Rattle.std.proofs.lemmas.{Bool.Decides.nat_tests, List.Sums.count_by-le-length}
+use Rattle.attempts.specs.declared.{Value.Value, Unit.Unit as Measure}
+use Rattle.formats.specs.declared.events.Format.{Format, TheVariants.Ao5, TheVariants.Mo3}
+use Rattle.formats.specs.declared.{results.Averaged.TheVariants.Missing, advance.Advance.Advance}
 use Rattle.formats.specs.Results.{number_of, numbers, least, best_of, average_of, averaged_number}
 use Rattle.formats.specs.Results.{trimmed, mean_of, key_of, is_less, is_same, is_better}
 use Rattle.rounds.specs.Tables.{Entrant, Table, entrant, has_number, has_started}
 use Rattle.rounds.specs.Tables.{is_started_attempt, key, place, not_worse, started}
-use Rattle.rounds.specs.Positions.{place_at}
+use Rattle.rounds.{specs.Positions.place_at, proofs.KeyOrder.IsBest, proofs.KeyOrder.best_of_those}
 use Rattle.rounds.proofs.CutoffOrder.{number_of_best, better_better, not_better}
 use Rattle.rounds.proofs.KeyOrder.{ahead_of, count_le_in, count_lt_in, count_all, count_same}
-use Rattle.rounds.proofs.KeyOrder.{IsBest, best_of_those}
 use Rattle.rounds.proofs.Within.{within_upper, within_there, IsThere}
-use Rattle.formats.specs.declared.advance.Advance.{Advance}
 use Rattle.advancement.specs.Advancing.{has_result, holds_of, is_among, is_before, IsBorder, quota}
 use Rattle.advancement.specs.Advancing.{advances}
+use Rattle.attempts.specs.declared.Value.TheVariants as value
 
 -- Who has not started is worse than who has a result
 
@@ -83,9 +76,7 @@ better_than_none Ao5 unit vs ws h none =
     second_better _ _ _ _ h (no_trimmed unit ws none) (no_best ws none)
 better_than_none Mo3 unit vs ws h none =
     second_better _ _ _ _ h (no_mean unit ws none) (no_best ws none)
-better_than_none Bo1 unit vs ws h none = first_better _ _ _ h (no_best ws none)
-better_than_none Bo2 unit vs ws h none = first_better _ _ _ h (no_best ws none)
-better_than_none Bo3 unit vs ws h none = first_better _ _ _ h (no_best ws none)
+better_than_none _ unit vs ws h none = first_better _ _ _ h (no_best ws none)
 
 -- Counting
 
@@ -129,9 +120,7 @@ module _ (t : Table) (e : Entrant) (j : ℕ) (there : slice_get t.entrants j ≡
       step : (other : Entrant) (b : Bool) → has_started other ≡ b → (b && level other) ≡ level other
       step other true is = refl
       step other false is =
-          sym
-          (ap not
-          (better_than_none t.format t.unit e.values other.values result
+          sym (ap not (better_than_none t.format t.unit e.values other.values result
           (no_numbers other.values is)))
 
   -- a later place is that of a worse one
@@ -202,8 +191,7 @@ module _ (t : Table) (e : Entrant) (j : ℕ) (there : slice_get t.entrants j ≡
           absurd (omega (arith, all, few, room))
       step (inr b) =
           let le =
-          count_le_in (ahead b.one) level t.entrants
-          (λ i x at first.
+          count_le_in (ahead b.one) level t.entrants (λ i x at first.
           flip_true _ (is_false _ (λ behind. false≢true (sym (b.best i x at behind) ∙ first)))) in
           let low : place t b.one ≤ m + 1 = omega (arith, le, few) in
           let upper =
@@ -240,10 +228,8 @@ among_before t m n e found room = step (has_result e) refl
     step false is = refl
     step true is =
         let level = level_started t e at.0 at.1 is in
-        same_tests _ _
-        (λ few. let low : not_worse t e ≤ m = le_true (not_worse t e) m few in
-        true_lt _ _ (before_few t e at.0 at.1 m room (omega (arith, level, low))))
-        (λ before.
+        same_tests _ _ (λ few. let low : not_worse t e ≤ m = le_true (not_worse t e) m few in
+        true_lt _ _ (before_few t e at.0 at.1 m room (omega (arith, level, low)))) (λ before.
         true_le _ _
         (let less = few_before t e at.0 at.1 m (lt_true _ _ before) in omega (arith, level, less)))
 
@@ -260,8 +246,7 @@ pub border_is : (t : Table) (advance : Advance)
     → IsBorder t advance (place_at t (quota advance (started t) + 1))
 border_is t advance n = step (entrant t n) refl
   where
-    step : (o : Option Entrant) → entrant t n ≡ o
-        → holds_of (advances t advance) o
+    step : (o : Option Entrant) → entrant t n ≡ o → holds_of (advances t advance) o
         ≡ holds_of (is_before t (place_at t (quota advance (started t) + 1))) o
     step None is = refl
     step (Some e) found =

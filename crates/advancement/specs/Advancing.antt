@@ -2,9 +2,8 @@
 use Rattle.std.specs.Prelude.{◌≡◌, ℕ, ◌*◌, ◌/◌, ◌&&◌, ◌==◌, Bool, false, nat_le, nat_lt}
 use Rattle.std.specs.Prelude.{if◌then◌else◌, min, is_some, List, filter, Option, None, Some}
 use Rattle.std.specs.List.{list_any}
-use Rattle.formats.specs.Results.{best_of, number_of}
+use Rattle.formats.specs.{Results.best_of, Results.number_of, declared.advance.Advance.Advance}
 use Rattle.rounds.specs.Tables.{Entrant, Table, entrant, place, started, not_worse, standings}
-use Rattle.formats.specs.declared.advance.Advance.{Advance}
 use Rattle.formats.specs.declared.advance.Advance.TheVariants.{Final, Top, Percent}
 
 -- the most rounds that may follow one of this many competitors (WCA Regulations, article 9m)

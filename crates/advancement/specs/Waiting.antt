@@ -2,8 +2,7 @@
 -- before who did not advance. That the best attempt has to be a number, and that those of one place
 -- come in the order of their entry, are the project's own.
 use Rattle.std.specs.Prelude.{◌≡◌, ℕ, ◌&&◌, ◌==◌, Bool, not, List, filter, find, take, slice_get}
-use Rattle.std.specs.Prelude.{Option}
-use Rattle.std.specs.List.{list_any}
+use Rattle.std.specs.{Prelude.Option, List.list_any}
 use Rattle.formats.specs.declared.advance.Advance.{Advance}
 use Rattle.rounds.specs.Tables.{Entrant, Table, entrant, standings}
 use Rattle.advancement.specs.Advancing.{has_result, advances, holds_of, is_before}

@@ -1,13 +1,10 @@
 -- Worked cases of who waits for a place, and of who takes it.
 use Rattle.std.specs.Prelude.{◌≡◌, ℕ, true, List, [], ◌∷◌, map, None, Some}
-use Rattle.attempts.specs.declared.Value.{Value}
+use Rattle.attempts.specs.declared.{Value.Value, Unit.TheVariants.Time}
 use Rattle.attempts.specs.declared.Value.TheVariants.{Number, Dnf, Dns}
-use Rattle.attempts.specs.declared.Unit.TheVariants.{Time}
-use Rattle.formats.specs.declared.events.Format.TheVariants.{Bo1}
-use Rattle.formats.specs.declared.advance.Advance.TheVariants.{Top}
+use Rattle.formats.specs.declared.{events.Format.TheVariants.Bo1, advance.Advance.TheVariants.Top}
 use Rattle.rounds.specs.Tables.{Entrant, Table}
-use Rattle.advancement.specs.Advancing.{advancing}
-use Rattle.advancement.specs.Waiting.{waiting, next_of}
+use Rattle.advancement.specs.{Advancing.advancing, Waiting.waiting, Waiting.next_of}
 
 abbrev pub entrant_with : ℕ × Value → Entrant
 entrant_with line = record { number = line.0; values = line.1 ∷ [] }
@@ -27,8 +24,7 @@ closed_round lines =
 -- entry
 abbrev pub five : Table
 five =
-    closed_round
-    ((1, Number 1300) ∷ (2, Number 1000) ∷ (3, Dnf) ∷ (4, Number 1200) ∷ (5, Dns) ∷ [])
+    closed_round ((1, Number 1300) ∷ (2, Number 1000) ∷ (3, Dnf) ∷ (4, Number 1200) ∷ (5, Dns) ∷ [])
 
 -- 3 and 4 are tied over the border of two places: they stay out together, and wait in the order of
 -- their entry

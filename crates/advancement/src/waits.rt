@@ -4,9 +4,8 @@ ghost use Rattle.std.specs.Prelude.{◌≡◌, ◌≤◌, ◌&&◌, not, IfOk, i
 ghost use Rattle.std.specs.List.{IsDistinct};
 ghost use Rattle.formats.specs.Results.{number_of};
 ghost use Rattle.rounds.specs.Tables.{entrant};
-ghost use Rattle.advancement.specs.Advancing.{holds_of};
-ghost use Rattle.advancement.specs.Waiting.{waiting, AreThoseWhoWait, IsTakenInTurn};
-ghost use Rattle.advancement.specs.Waiting.{is_behind, those_behind};
+ghost use Rattle.advancement.specs.{Advancing.holds_of, Waiting.those_behind};
+ghost use Rattle.advancement.specs.Waiting.{waiting, AreThoseWhoWait, IsTakenInTurn, is_behind};
 ghost use Rattle.advancement.specs.WaitingCases.{IsWorked};
 
 use crate::{border, is_number, is_through};

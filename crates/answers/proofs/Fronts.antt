@@ -2,12 +2,10 @@
 use Rattle.std.proofs.Common.{◌≡◌, ◌⊎◌, inl, inr, ℕ, zero, suc, ◌+◌, ◌<◌, ◌≤◌, Bool, true, false}
 use Rattle.std.proofs.Common.{if◌then◌else◌, List, [], ◌∷◌, ◌++◌, Some, length, take, slice_get}
 use Rattle.std.proofs.Common.{refl, sym, ap, ◌∙◌, arith}
-use Rattle.std.proofs.lemmas.List.{take-append-le}
-use Rattle.std.specs.List.{position_from}
+use Rattle.std.{proofs.lemmas.List.take-append-le, specs.List.position_from}
 use Rattle.acceptor.specs.declared.entry.Entry.{Entry}
 use Rattle.answers.specs.Answers.{sheet_at}
-use Rattle.formats.specs.declared.events.Event.{Event}
-use Rattle.formats.specs.declared.styles.SheetStyle.{SheetStyle}
+use Rattle.formats.specs.declared.{events.Event.Event, styles.SheetStyle.SheetStyle}
 use Rattle.formats.specs.declared.styles.SheetStyle.TheVariants.{Text, Table}
 use Rattle.learner.specs.Laws.{IsPrefix}
 

@@ -1,11 +1,10 @@
 -- The sheet at a position is that of the meet which the entries up to there come to.
-use Rattle.std.proofs.Common.{◌≡◌, ◌≤◌, ℕ, List, Some, Result, Ok, Err, IfOk, IfErr}
-use Rattle.std.proofs.Common.{Vec, length, take, refl, sym, ap, ◌∙◌}
+use Rattle.std.proofs.Common.{◌≡◌, ◌≤◌, ℕ, List, Some, Result, Ok, Err, IfOk, IfErr, Vec, length}
+use Rattle.std.proofs.Common.{take, refl, sym, ap, ◌∙◌}
 use Rattle.acceptor.specs.declared.entry.Entry.{Entry}
-use Rattle.formats.specs.declared.events.Event.{Event}
+use Rattle.formats.specs.declared.{events.Event.Event, styles.SheetStyle.SheetStyle as Style}
 use Rattle.commands.specs.History.{History, history}
 use Rattle.sheets.specs.Sheet.{sheet}
-use Rattle.formats.specs.declared.styles.SheetStyle.{SheetStyle as Style}
 use Rattle.formats.specs.declared.styles.SheetStyle.TheVariants.{Text, Table}
 use Rattle.answers.specs.Answers.{texts, sheet_at, NoSheetAt, NoSheetIn}
 use Rattle.answers.specs.declared.fault.LogSheetFault.{LogSheetFault}
@@ -38,8 +37,7 @@ module _ (style : Style) (log : List Entry) (position : ℕ) (event : Event) (ro
   no_sheet NoMemory within is = within
 
   pub none_there : {A : Type 0} (r : Result (Vec ℕ A) LogSheetFault) → position ≤ length log
-      → IfErr r (λ fault. NoSheetIn fault (sheet style h.accepted event round position))
-      → IfErr r
+      → IfErr r (λ fault. NoSheetIn fault (sheet style h.accepted event round position)) → IfErr r
       (λ fault. NoSheetAt fault log position (sheet_at style log position event round))
   none_there (Ok text) within is = tt
   none_there (Err fault) within is = no_sheet fault within is

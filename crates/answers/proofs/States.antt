@@ -3,10 +3,9 @@ use Rattle.std.proofs.Common.{◌≡◌, ℕ, List, Option, Some, None, take, sl
 use Rattle.std.specs.Option.{option_map}
 use Rattle.acceptor.specs.declared.entry.Entry.{Entry}
 use Rattle.learner.specs.Logs.{position_of}
-use Rattle.answers.specs.Answers.{told, told_at, told_by}
+use Rattle.answers.specs.{Answers.told, Answers.told_at, declared.answers.IdState.TheVariants.Done}
+use Rattle.answers.{specs.Answers.told_by, proofs.Transcripts.answered_front}
 use Rattle.answers.specs.Transcripts.{TranscriptValue, IsFront, answer_after, answer_at}
-use Rattle.answers.specs.declared.answers.IdState.TheVariants.{Done}
-use Rattle.answers.proofs.Transcripts.{answered_front}
 use Rattle.texts.specs.declared.answer.Answer.{Answer}
 
 done_at : (log queue : List Entry) (id pos : ℕ) (answer : Answer)

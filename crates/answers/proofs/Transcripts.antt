@@ -1,15 +1,12 @@
 -- Transcripts: one entry more, the first entries of a log, and a log that grew.
-use Rattle.std.proofs.Common.{◌≡◌, ◌<◌, ◌+◌, ℕ, zero, suc, List, [], ◌∷◌, ◌++◌, Some}
-use Rattle.std.proofs.Common.{length, take, slice_get, refl, sym, ap, ◌∙◌, subst, arith}
-use Rattle.std.proofs.Common.{length-append}
-use Rattle.std.proofs.Math.Seq.{take-length}
+use Rattle.std.proofs.Common.{◌≡◌, ◌<◌, ◌+◌, ℕ, zero, suc, List, [], ◌∷◌, ◌++◌, Some, length, take}
+use Rattle.std.proofs.Common.{slice_get, refl, sym, ap, ◌∙◌, subst, arith, length-append}
+use Rattle.std.proofs.{Math.Seq.take-length, lemmas.Option.slice_get_within}
 use Rattle.std.proofs.lemmas.List.{append-nil, append_assoc, map-append, take-append-le, take-take}
-use Rattle.std.proofs.lemmas.Option.{slice_get_within}
 use Rattle.std.specs.Option.{option_map}
 use Rattle.acceptor.specs.declared.entry.Entry.{Entry}
-use Rattle.answers.specs.Answers.{texts}
-use Rattle.answers.specs.Transcripts.{answer_after, answer_at, answers_after}
-use Rattle.answers.specs.Transcripts.{TranscriptValue, IsTranscript, IsFront}
+use Rattle.answers.specs.{Answers.texts, Transcripts.IsTranscript, Transcripts.IsFront}
+use Rattle.answers.specs.Transcripts.{answer_after, answer_at, answers_after, TranscriptValue}
 use Rattle.commands.specs.History.{History, StandsFor, history, answer_to}
 use Rattle.learner.specs.Laws.{IsPrefix}
 use Rattle.texts.specs.declared.answer.Answer.{Answer}
@@ -40,8 +37,7 @@ as_many before [] = refl
 as_many before (e ∷ entries) = ap suc (as_many (before ++ e ∷ []) entries)
 
 -- one more entry is answered after all that are there
-one_more : (before entries : List Entry) (e : Entry)
-    → answers_after before (entries ++ e ∷ [])
+one_more : (before entries : List Entry) (e : Entry) → answers_after before (entries ++ e ∷ [])
     ≡ answers_after before entries ++ answer_after (before ++ entries) e ∷ []
 one_more before [] e =
     ap (λ (es : List Entry). answer_after es e ∷ []) (sym (append-nil before))
@@ -77,8 +73,7 @@ is_as_long t entries is = ap length is.answers ∙ as_many [] entries
 
 -- one entry more
 pub taken_next : (old new : TranscriptValue) (entries : List Entry) (e : Entry) (answer : Answer)
-    → IsTranscript old entries
-    → StandsFor new.meet (texts entries ++ (e.id, e.text) ∷ [])
+    → IsTranscript old entries → StandsFor new.meet (texts entries ++ (e.id, e.text) ∷ [])
     → new.answers ≡ old.answers ++ answer ∷ [] → answer ≡ answer_to old.meet e.id e.text
     → IsTranscript new (entries ++ e ∷ [])
 taken_next old new entries e answer is stands items answered =
@@ -131,8 +126,7 @@ front_next old new log e is at more next =
 pub front_grows : (t : TranscriptValue) (xs ys : List Entry) → IsPrefix xs ys → IsFront t xs
     → IsFront t ys
 front_grows t xs ys grown is =
-    subst (IsFront t) grown.1
-    (record {
+    subst (IsFront t) grown.1 (record {
       few = omega (arith, is.few, length-append xs grown.0);
       first =
           subst (IsTranscript t)

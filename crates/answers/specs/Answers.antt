@@ -1,17 +1,14 @@
 -- What a desk answers from its log: what has become of an id, and the sheets (the project's own).
 use Rattle.std.specs.Prelude.{◌≡◌, ℕ, ◌≤◌, ◌<◌, ◌==◌, Bool, if◌then◌else◌, List, map, length, take}
-use Rattle.std.specs.Prelude.{slice_get, Option, None, Some}
-use Rattle.std.specs.List.{list_any}
+use Rattle.std.specs.{Prelude.slice_get, Prelude.Option, Prelude.None, Prelude.Some, List.list_any}
 use Rattle.acceptor.specs.declared.entry.Entry.{Entry}
 use Rattle.learner.specs.Logs.{position_of}
-use Rattle.formats.specs.declared.events.Event.{Event}
+use Rattle.formats.specs.declared.{events.Event.Event, styles.SheetStyle.SheetStyle as Style}
 use Rattle.commands.specs.History.{history, answer_to}
 use Rattle.sheets.specs.Sheet.{text_sheet, table_sheet}
-use Rattle.formats.specs.declared.styles.SheetStyle.{SheetStyle as Style}
 use Rattle.formats.specs.declared.styles.SheetStyle.TheVariants.{Text, Table}
-use Rattle.answers.specs.declared.answers.IdState.{IdState}
+use Rattle.answers.specs.declared.{answers.IdState.IdState, fault.LogSheetFault.LogSheetFault}
 use Rattle.answers.specs.declared.answers.IdState.TheVariants.{Done, Pending, Unknown}
-use Rattle.answers.specs.declared.fault.LogSheetFault.{LogSheetFault}
 use Rattle.answers.specs.declared.fault.LogSheetFault.TheVariants.{NotThere, NoSuchRound, NoMemory}
 
 -- entries as ids and texts

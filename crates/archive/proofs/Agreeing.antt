@@ -1,35 +1,25 @@
 -- The lines of an archive come to the accepted commands of the log, entry by entry.
 use Rattle.std.proofs.Common.{◌≡◌, ℕ, ◌+◌, ◌≤◌, suc, Bool, true, false, cond, ◌&&◌, ◌==◌, not, List}
-use Rattle.std.proofs.Common.{[], ◌∷◌, ◌++◌, length, map, Option, Some, Result, Ok, Err, refl, sym}
-use Rattle.std.proofs.Common.{ap, ◌∙◌, subst, arith, append_assoc, append-nil}
+use Rattle.std.proofs.Common.{[], ◌∷◌, ◌++◌, length, Option, Some, Result, Ok, Err, refl, sym, ap}
+use Rattle.std.proofs.Common.{◌∙◌, subst, arith, append_assoc, append-nil}
 use Rattle.std.specs.List.{list_any, enumerate_from}
 use Rattle.std.proofs.lemmas.Bool.{false≢true}
-use Rattle.std.proofs.lemmas.Bool.Decides.{nat_tests}
-use Rattle.std.proofs.lemmas.List.Sums.{fold-append}
+use Rattle.std.proofs.lemmas.{Bool.Decides.nat_tests, List.map-append, List.Sums.fold-append}
 use Rattle.acceptor.specs.declared.entry.Entry.{Entry}
-use Rattle.texts.specs.declared.command.Command.{Command}
-use Rattle.texts.specs.declared.command.RemarkedCommand.{RemarkedCommand}
-use Rattle.texts.specs.declared.answer.Answer.{Answer}
-use Rattle.texts.specs.declared.answer.Answer.TheVariants.{Refused}
-use Rattle.texts.specs.declared.answer.Code.{Code}
-use Rattle.texts.specs.declared.answer.Code.TheVariants as code
-use Rattle.texts.specs.declared.reading.CommandFault.{CommandFault}
-use Rattle.texts.specs.declared.reading.CommandFault.TheVariants as fault
-use Rattle.texts.specs.Fields.{cut}
+use Rattle.texts.specs.declared.command.{Command.Command, RemarkedCommand.RemarkedCommand}
+use Rattle.texts.specs.declared.answer.{Answer.TheVariants.Refused, Code.Code}
+use Rattle.texts.specs.{declared.reading.CommandFault.CommandFault, Fields.cut, Table.rows}
 use Rattle.texts.specs.Reading.{command_of, SpellsWhatIsRead}
-use Rattle.texts.specs.Table.{rows}
 use Rattle.commands.specs.History.{History, nothing, history, after, is_seen, answer_of, answer_to}
 use Rattle.commands.specs.History.{read_refusal, added_read, SeesEachId}
 use Rattle.commands.proofs.Entries.{accepted_new, after_seen, answer_new}
 use Rattle.lines.specs.Lines.{is_line}
+use Rattle.replay.{specs.Replay.entries, proofs.Applied.history_more}
+use Rattle.answers.specs.Answers.{texts}
 use Rattle.archive.specs.Archive.{has_id, line_of, lines_behind, archive}
-use Rattle.archive.proofs.Feeds.{command_is_line}
-
-abbrev pub pairs : List Entry → List (ℕ × List ℕ)
-pairs es = map (λ e. (e.id, e.text)) es
-
-abbrev pub numbered : List (List ℕ) → List (ℕ × List ℕ)
-numbered lines = enumerate_from 1 lines
+use Rattle.archive.{specs.Replayed.replayed, proofs.Feeds.command_is_line}
+use Rattle.texts.specs.declared.answer.Code.TheVariants as code
+use Rattle.texts.specs.declared.reading.CommandFault.TheVariants as fault
 
 -- ---- one entry more
 
@@ -37,8 +27,7 @@ lines-more : (before es : List Entry) (e : Entry)
     → lines_behind before (es ++ e ∷ []) ≡ lines_behind before es ++ line_of (before ++ es) e ∷ []
 lines-more before [] e = ap (λ (b : List Entry). line_of b e ∷ []) (sym (append-nil before))
 lines-more before (x ∷ es) e =
-    ap (λ (ls : List (List ℕ)). line_of before x ∷ ls)
-    (lines-more (before ++ x ∷ []) es e
+    ap (λ (ls : List (List ℕ)). line_of before x ∷ ls) (lines-more (before ++ x ∷ []) es e
     ∙ ap (λ (b : List Entry). lines_behind (before ++ x ∷ []) es ++ line_of b e ∷ [])
     (append_assoc before (x ∷ []) es))
 
@@ -53,44 +42,22 @@ length-behind before (e ∷ es) = ap suc (length-behind (before ++ e ∷ []) es)
 pub length-archive : (es : List Entry) → length (archive es) ≡ length es
 length-archive es = length-behind [] es
 
-pairs-more : (es : List Entry) (e : Entry) → pairs (es ++ e ∷ []) ≡ pairs es ++ (e.id, e.text) ∷ []
-pairs-more [] e = refl
-pairs-more (x ∷ es) e = ap (λ (ys : List (ℕ × List ℕ)). (x.id, x.text) ∷ ys) (pairs-more es e)
-
-numbered-more : (n : ℕ) (lines : List (List ℕ)) (line : List ℕ)
-    → enumerate_from n (lines ++ line ∷ [])
-    ≡ enumerate_from n lines ++ (n + length lines, line) ∷ []
-numbered-more n [] line =
-    let first : n ≡ n + 0 = omega arith in
-    ap (λ (m : ℕ). let es : List (ℕ × List ℕ) = (m, line) ∷ [] in es) first
-numbered-more n (x ∷ lines) line =
-    let next : n + 1 + length lines ≡ n + suc (length lines) = omega arith in
-    ap (λ (es : List (ℕ × List ℕ)). (n, x) ∷ es)
-    (numbered-more (n + 1) lines line
-    ∙ ap (λ (m : ℕ). enumerate_from (n + 1) lines ++ (m, line) ∷ []) next)
-
-history-more : (es : List (ℕ × List ℕ)) (id : ℕ) (text : List ℕ)
-    → history (es ++ (id, text) ∷ []) ≡ after (history es) id text
-history-more es id text =
-    fold-append (λ (h : History) (entry : ℕ × List ℕ). after h entry.0 entry.1) nothing es
-    ((id, text) ∷ [])
-
 -- the history of one entry more
 log-more : (es : List Entry) (e : Entry)
-    → history (pairs (es ++ e ∷ [])) ≡ after (history (pairs es)) e.id e.text
-log-more es e = ap history (pairs-more es e) ∙ history-more (pairs es) e.id e.text
+    → history (texts (es ++ e ∷ [])) ≡ after (history (texts es)) e.id e.text
+log-more es e =
+    ap history (map-append (λ (x : Entry). (x.id, x.text)) es (e ∷ []))
+    ∙ fold-append (λ (h : History) (entry : ℕ × List ℕ). after h entry.0 entry.1) nothing (texts es)
+    ((e.id, e.text) ∷ [])
 
 -- and that of one line more
-replay-more : (es : List Entry) (e : Entry)
-    → history (numbered (archive (es ++ e ∷ [])))
-    ≡ after (history (numbered (archive es))) (length es + 1) (line_of es e)
+replay-more : (es : List Entry) (e : Entry) → history (entries (archive (es ++ e ∷ [])))
+    ≡ after (history (entries (archive es))) (length es + 1) (line_of es e)
 replay-more es e =
-    let count = length-archive es in
-    let place : 1 + length (archive es) ≡ length es + 1 = omega arith in
-    ap (λ (ls : List (List ℕ)). history (numbered ls)) (archive-more es e)
-    ∙ ap history (numbered-more 1 (archive es) (line_of es e))
-    ∙ history-more (numbered (archive es)) (1 + length (archive es)) (line_of es e)
-    ∙ ap (λ (n : ℕ). after (history (numbered (archive es))) n (line_of es e)) place
+    ap (λ (ls : List (List ℕ)). history (entries ls)) (archive-more es e)
+    ∙ history_more (archive es) (line_of es e)
+    ∙ ap (λ (n : ℕ). after (history (entries (archive es))) (n + 1) (line_of es e))
+    (length-archive es)
 
 -- ---- ids
 
@@ -98,7 +65,7 @@ same-test : (a b : ℕ) → (a == b) ≡ (b == a)
 same-test a b = grind (arith, nat_tests)
 
 log-has : (es : List Entry) (id : ℕ)
-    → list_any (λ (entry : ℕ × List ℕ). id == entry.0) (pairs es) ≡ has_id es id
+    → list_any (λ (entry : ℕ × List ℕ). id == entry.0) (texts es) ≡ has_id es id
 log-has [] id = refl
 log-has (e ∷ es) id = rw (same-test id e.id, log-has es id) refl
 
@@ -111,22 +78,17 @@ number-new n m (x ∷ lines) past =
     let other : (m == n) ≡ false = grind (arith, nat_tests) in
     rw (other, number-new (n + 1) m lines rest) refl
 
-log-sees : SeesEachId → (es : List Entry) (id : ℕ)
-    → is_seen (history (pairs es)) id ≡ has_id es id
-log-sees sees es id = sees (pairs es) id ∙ log-has es id
+log-sees : SeesEachId → (es : List Entry) (id : ℕ) → is_seen (history (texts es)) id ≡ has_id es id
+log-sees sees es id = sees (texts es) id ∙ log-has es id
 
 replay-sees : SeesEachId → (es : List Entry)
-    → is_seen (history (numbered (archive es))) (length es + 1) ≡ false
+    → is_seen (history (entries (archive es))) (length es + 1) ≡ false
 replay-sees sees es =
     let count = length-archive es in
-    sees (numbered (archive es)) (length es + 1)
+    sees (entries (archive es)) (length es + 1)
     ∙ number-new 1 (length es + 1) (archive es) (omega arith)
 
 -- ---- answers
-
--- how a replay answers what is answered so, by whether the id was there before
-abbrev pub replayed : Bool → Answer → Answer
-replayed seen answer = cond seen (Refused code.Unread) answer
 
 no-command : command_of [] ≡ Err fault.NotACommand
 unfolding command_of cut rows
@@ -216,17 +178,17 @@ agree spells h g id n text false fresh new same = step (is_line text) refl
 -- ---- the whole log
 
 abbrev pub SameAccepted : List Entry → Type 0
-SameAccepted es = (history (numbered (archive es))).accepted ≡ (history (pairs es)).accepted
+SameAccepted es = (history (entries (archive es))).accepted ≡ (history (texts es)).accepted
 
 abbrev pub SameAnswer : List Entry → Entry → Type 0
 SameAnswer es e =
-    answer_to (history (numbered (archive es))) (length es + 1) (line_of es e)
-    ≡ replayed (has_id es e.id) (answer_to (history (pairs es)) e.id e.text)
+    answer_to (history (entries (archive es))) (length es + 1) (line_of es e)
+    ≡ replayed (has_id es e.id) (answer_to (history (texts es)) e.id e.text)
 
 entry-agrees : SpellsWhatIsRead → SeesEachId → (es : List Entry) (e : Entry) → SameAccepted es
     → SameAccepted (es ++ e ∷ []) × SameAnswer es e
 entry-agrees spells sees es e same =
-    let both = agree spells (history (pairs es)) (history (numbered (archive es))) e.id
+    let both = agree spells (history (texts es)) (history (entries (archive es))) e.id
     (length es + 1) e.text (has_id es e.id) (log-sees sees es e.id) (replay-sees sees es) same in (
       ap (λ (h : History). h.accepted) (replay-more es e) ∙ both.0
           ∙ ap (λ (h : History). h.accepted) (sym (log-more es e)),

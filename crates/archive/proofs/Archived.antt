@@ -1,17 +1,12 @@
 -- An archive as it is written, line after line.
-use Rattle.std.proofs.Common.{◌≡◌, ℕ, ◌+◌, ◌<◌, ◌≤◌, zero, suc, List, [], ◌∷◌, ◌++◌, length, get_or}
-use Rattle.std.proofs.Common.{take, drop, Option, Some, refl, sym, ap, ◌∙◌}
-use Rattle.std.proofs.Common.{append_assoc, append-nil, subst, drop-cons, arith, below_more}
-use Rattle.std.proofs.Common.{◌-◌, leb-true, leb-false}
-use Rattle.std.specs.Prelude.{Result, Ok, Err, OnErr, OnOk, slice_get, nat_le, if◌then◌else◌, Bool}
-use Rattle.std.specs.Prelude.{true, false}
-use Rattle.std.specs.List.{All}
-use Rattle.std.specs.Io.KnownBytes.{Appends}
-use Rattle.std.proofs.KnownBytes.{Appends-nil}
+use Rattle.std.proofs.Common.{◌≡◌, ℕ, ◌+◌, ◌<◌, ◌≤◌, suc, List, [], ◌∷◌, ◌++◌, length, get_or, take}
+use Rattle.std.proofs.Common.{drop, Option, Some, refl, sym, ap, ◌∙◌, append_assoc, append-nil}
+use Rattle.std.proofs.Common.{subst, drop-cons, arith, below_more, ◌-◌, leb-true, leb-false}
+use Rattle.std.specs.Prelude.{Result, Err, OnErr, slice_get, nat_le, if◌then◌else◌, Bool, true}
+use Rattle.std.specs.{Prelude.false, Io.KnownBytes.Appends}
+use Rattle.std.proofs.{KnownBytes.Appends-nil, lemmas.List.drop_all, Math.Seq.take-suc}
 use Rattle.std.proofs.lemmas.Option.{slice_get_within, get_or_from_slice_get}
-use Rattle.std.proofs.lemmas.List.{drop_all}
-use Rattle.acceptor.specs.Entries.{IsText}
-use Rattle.acceptor.specs.declared.entry.Entry.{Entry}
+use Rattle.acceptor.specs.{Entries.IsText, declared.entry.Entry.Entry}
 use Rattle.lines.specs.Bytes.{Writes, AppendsPart}
 use Rattle.lines.proofs.Inputs.{part_front, waits_more, all_out, part_out, still_waits}
 use Rattle.archive.specs.Archive.{archive, archive_from, bytes_of, line_of, lines_behind}
@@ -24,21 +19,16 @@ lines_from pos es = lines_behind (take pos es) (drop pos es)
 abbrev pub rest_from : (from pos : ℕ) → List Entry → List ℕ
 rest_from from pos es = bytes_of (drop (from - pos) (lines_from pos es))
 
-take-more : (es : List Entry) (k : ℕ) (e : Entry) → slice_get es k ≡ Some e
-    → take (suc k) es ≡ take k es ++ e ∷ []
-take-more [] k e h = absurd cc
-take-more (x ∷ es) zero e h = let same : x ≡ e = cc in ap (λ (y : Entry). y ∷ []) same
-take-more (x ∷ es) (suc k) e h = ap (λ (ys : List Entry). x ∷ ys) (take-more es k e h)
-
 lines-next : (pos : ℕ) (es : List Entry) (e : Entry) → slice_get es pos ≡ Some e
     → lines_from pos es ≡ line_of (take pos es) e ∷ lines_from (pos + 1) es
 lines-next pos es e is =
     let next : suc pos ≡ pos + 1 = omega arith in
+    let within = slice_get_within es pos e is in
+    let at = get_or_from_slice_get es pos e e is in
     ap (λ (xs : List Entry). lines_behind (take pos es) xs)
-    (drop-cons es pos e (slice_get_within es pos e is)
-    ∙ ap (λ (x : Entry). x ∷ drop (suc pos) es) (get_or_from_slice_get es pos e e is))
+    (drop-cons es pos e within ∙ ap (λ (x : Entry). x ∷ drop (suc pos) es) at)
     ∙ ap (λ (b : List Entry). line_of (take pos es) e ∷ lines_behind b (drop (suc pos) es))
-    (sym (take-more es pos e is))
+    (sym (take-suc es pos e within ∙ ap (λ (x : Entry). take pos es ++ x ∷ []) at))
     ∙ ap (λ (n : ℕ). line_of (take pos es) e ∷ lines_from n es) next
 
 -- a line that is left out, or not
@@ -53,8 +43,7 @@ kept_line n k line more none last =
     ∙ ap (λ m. (line ++ 10 ∷ []) ++ bytes_of (drop m more)) (sym last)
 
 piece-next : (from pos : ℕ) (line : List ℕ) (more : List (List ℕ)) (there : Bool)
-    → nat_le from pos ≡ there
-    → bytes_of (drop (from - pos) (line ∷ more))
+    → nat_le from pos ≡ there → bytes_of (drop (from - pos) (line ∷ more))
     ≡ (if there then line ++ 10 ∷ [] else []) ++ bytes_of (drop (from - (pos + 1)) more)
 piece-next from pos line more true h =
     let le : from ≤ pos = leb-true from pos h in
@@ -96,8 +85,7 @@ begins from es old out none = record {
 pub one_more : (from : ℕ) (es : List Entry) (pos : ℕ) (e : Entry) (old mid new : Option (List ℕ))
     (out out' out'' : List ℕ)
     → Archived from es pos old mid out → slice_get es pos ≡ Some e → IsText e.text
-    → out' ≡ out ++ piece_from from es pos e
-    → (front : List ℕ) × Writes mid new out' front out''
+    → out' ≡ out ++ piece_from from es pos e → (front : List ℕ) × Writes mid new out' front out''
     → Archived from es (pos + 1) old new out''
 one_more from es pos e old mid new out out' out'' a is fits said w =
     let line : List ℕ = piece_from from es pos e in
@@ -147,19 +135,6 @@ ends from es pos old mid new out a past last =
     let text : a.text ≡ archive_from from es =
     sym (append-nil a.text) ∙ ap (λ t. a.text ++ t) (sym (rest-end from pos es past)) ∙ a.whole in
     subst (Appends old new) text (all_out old mid new a.text a.front out a.written last)
-
-pub all_short : (from : ℕ) (es : List Entry) (pos : ℕ) (old new : Option (List ℕ)) (out : List ℕ)
-    → Archived from es pos old new out → length es ≤ pos → All (λ e. IsText e.text) es
-all_short from es pos old new out a past = λ k d less. a.short k (omega arith) d
-
--- what follows where the lines are not written
-pub if_unwritten : {A E P Q : Type 0} (r : Result A E) → (P → Q) → OnErr r P → OnErr r Q
-if_unwritten (Ok a) f h = h
-if_unwritten (Err e) f h = f h
-
-pub if_written : {A E P Q : Type 0} (r : Result A E) → (P → Q) → OnOk r P → OnOk r Q
-if_written (Ok a) f h = f h
-if_written (Err e) f h = h
 
 pub stopped_by : {A E P : Type 0} (r : Result A E) (e : E) → r ≡ Err e → P → OnErr r P
 stopped_by {A} {E} {P} r e is h = subst (λ x. OnErr x P) (sym is) h

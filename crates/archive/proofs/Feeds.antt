@@ -1,30 +1,23 @@
 -- A text that reads as a command has no line feed.
 use Rattle.std.proofs.Common.{◌≡◌, ℕ, Bool, true, false, ◌||◌, ◌==◌, not, List, [], ◌∷◌, ◌++◌, map}
 use Rattle.std.proofs.Common.{codes, length, nat_le, Option, Some, None, Ok, refl, sym, ap, ◌∙◌}
-use Rattle.std.proofs.Common.{eqb-true}
+use Rattle.std.proofs.{Common.eqb-true, lemmas.List.Folds.list_all-append}
 use Rattle.std.specs.List.{list_all, list_any, join_with_byte}
 use Rattle.std.proofs.lemmas.Bool.{false≢true}
-use Rattle.std.proofs.lemmas.List.Folds.{list_all-append}
-use Rattle.texts.specs.declared.command.Command.{Command}
-use Rattle.texts.specs.declared.command.RemarkedCommand.{RemarkedCommand}
+use Rattle.texts.specs.declared.command.{Command.Command, RemarkedCommand.RemarkedCommand}
 use Rattle.texts.specs.Names.{is_clear_name, is_name_byte, is_name, is_name_in, is_remark}
-use Rattle.texts.specs.Parts.{parts}
-use Rattle.texts.specs.Reading.{SpellsWhatIsRead, command_of}
+use Rattle.texts.specs.{Parts.parts, Reading.SpellsWhatIsRead, declared.value.FieldValue.FieldValue}
+use Rattle.texts.{specs.Reading.command_of, proofs.Values.may_have_mark, proofs.Values.value_plain}
 use Rattle.texts.specs.Spelling.{AllFit, Fits, IsFit, IsFitRemark, spelling, standing}
-use Rattle.texts.specs.Spelling.{told_spelling}
-use Rattle.texts.specs.Spelling.{value_text, with_remark_text, words_of}
+use Rattle.texts.specs.Spelling.{told_spelling, value_text, with_remark_text, words_of}
 use Rattle.texts.specs.Table.{fields_in, row_of, rows, word_in}
-use Rattle.texts.specs.declared.table.FieldKind.{FieldKind}
-use Rattle.texts.specs.declared.table.FieldKind.TheVariants as kind
-use Rattle.texts.specs.declared.table.Tag.{Tag}
-use Rattle.texts.specs.declared.table.Tag.TheVariants as tag
-use Rattle.texts.specs.declared.value.FieldValue.{FieldValue}
-use Rattle.texts.specs.declared.value.FieldValue.TheVariants as value
-use Rattle.texts.proofs.Bytes.{is_plain}
-use Rattle.texts.proofs.Cuts.{lacks, and-true}
+use Rattle.texts.specs.declared.table.{FieldKind.FieldKind, Tag.Tag}
+use Rattle.texts.proofs.{Bytes.is_plain, Cuts.lacks, Cuts.and-true}
 use Rattle.texts.proofs.FieldSpellings.{name_bytes, new_name_bytes}
-use Rattle.texts.proofs.Values.{may_have_mark, value_plain}
 use Rattle.lines.specs.Lines.{is_line}
+use Rattle.texts.specs.declared.table.FieldKind.TheVariants as kind
+use Rattle.texts.specs.declared.table.Tag.TheVariants as tag
+use Rattle.texts.specs.declared.value.FieldValue.TheVariants as value
 
 -- ---- bytes
 
@@ -42,8 +35,7 @@ lack p feed (b ∷ bytes) h =
     step true is passes =
         absurd (false≢true (sym feed ∙ ap p (sym (eqb-true b 10 is)) ∙ passes))
 
-both-lack : (xs ys : List ℕ) → lacks 10 xs ≡ true → lacks 10 ys ≡ true
-    → lacks 10 (xs ++ ys) ≡ true
+both-lack : (xs ys : List ℕ) → lacks 10 xs ≡ true → lacks 10 ys ≡ true → lacks 10 (xs ++ ys) ≡ true
 both-lack xs ys front back =
     list_all-append (λ b. not (b == 10)) xs ys ∙ rw (front, back) refl
 
@@ -140,6 +132,5 @@ command_is_line spells text told h =
     let spelled = spells text told h in
     let c : Command = told.command in
     ap is_line spelled.1
-    ∙ line-lacks (told_spelling told)
-    (told-lacks c (spelling c) told.remark spelled.0.1
+    ∙ line-lacks (told_spelling told) (told-lacks c (spelling c) told.remark spelled.0.1
     (joined-lack (words_of c) (words-lack c spelled.0.0)))

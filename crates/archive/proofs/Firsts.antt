@@ -1,14 +1,12 @@
 -- The first position of an id, and the entries in front of a position.
 use Rattle.std.proofs.Common.{◌≡◌, ℕ, zero, suc, ◌+◌, Bool, true, false, cond, ◌&&◌, ◌||◌, ◌==◌}
 use Rattle.std.proofs.Common.{not, List, [], ◌∷◌, take, None, Some, sym, ap, ◌∙◌, arith}
-use Rattle.std.specs.Prelude.{slice_get}
-use Rattle.std.specs.List.{list_any, position_from}
+use Rattle.std.specs.{Prelude.slice_get, List.list_any, List.position_from}
 use Rattle.std.proofs.lemmas.Bool.Decides.{nat_tests}
 use Rattle.acceptor.specs.declared.entry.Entry.{Entry}
 use Rattle.learner.specs.Logs.{position_of}
 use Rattle.lines.specs.Lines.{is_line}
-use Rattle.archive.specs.Archive.{has_id}
-use Rattle.archive.specs.model.Firsts.{is_at}
+use Rattle.archive.specs.{Archive.has_id, model.Firsts.is_at}
 
 first-from : (t : Entry → Bool) (i : ℕ) (es : List Entry) (k : ℕ) (e : Entry)
     → slice_get es k ≡ Some e → t e ≡ true

@@ -1,15 +1,11 @@
 -- What a replay of an archive gives.
 use Rattle.std.proofs.Common.{◌≡◌, ℕ, suc, ◌≤◌, Bool, true, false, cond, ◌&&◌, not, List, [], ◌∷◌}
 use Rattle.std.proofs.Common.{◌++◌, length, take, refl, sym, ap, ◌∙◌, arith, take_all}
-use Rattle.std.specs.List.{All, list_all}
-use Rattle.std.proofs.lemmas.Bool.Decides.{nat_tests}
-use Rattle.acceptor.specs.Entries.{IsText}
-use Rattle.acceptor.specs.declared.entry.Entry.{Entry}
-use Rattle.formats.specs.declared.events.Event.{Event}
-use Rattle.texts.specs.declared.command.Command.{Command}
-use Rattle.texts.specs.Reading.{SpellsWhatIsRead}
+use Rattle.std.{specs.List.All, specs.List.list_all, proofs.lemmas.Bool.Decides.nat_tests}
+use Rattle.acceptor.specs.{Entries.IsText, declared.entry.Entry.Entry}
+use Rattle.formats.specs.declared.{events.Event.Event, styles.SheetStyle.SheetStyle as Style}
+use Rattle.texts.specs.{declared.command.Command.Command, Reading.SpellsWhatIsRead}
 use Rattle.commands.specs.History.{history, SeesEachId}
-use Rattle.formats.specs.declared.styles.SheetStyle.{SheetStyle as Style}
 use Rattle.formats.specs.declared.styles.SheetStyle.TheVariants.{Text, Table}
 use Rattle.sheets.specs.Sheet.{sheet}
 use Rattle.lines.specs.Lines.{is_line, lines_of}
@@ -21,8 +17,7 @@ use Rattle.archive.proofs.Parting.{is_short, lines-joined, joined-within}
 use Rattle.archive.proofs.Agreeing.{length-archive, same_accepted, same_answer}
 
 -- each line is one
-one-line : (seen : Bool) (text : List ℕ)
-    → is_line (cond (not seen && is_line text) text []) ≡ true
+one-line : (seen : Bool) (text : List ℕ) → is_line (cond (not seen && is_line text) text []) ≡ true
 one-line true text = refl
 one-line false text = step (is_line text) refl
   where
@@ -72,8 +67,7 @@ replay-is : (style : Style) (log : List Entry) (lines : List (List ℕ)) (event 
 replay-is style log lines event round are same =
     ap (sheet_after style event round) are
     ∙ ap (sheet style (history (entries (archive log))).accepted event round) (length-archive log)
-    ∙ style-is style log (history (entries (archive log))).accepted event round (length log)
-    (same
+    ∙ style-is style log (history (entries (archive log))).accepted event round (length log) (same
     ∙ ap (λ (es : List Entry). (history (texts es)).accepted)
     (sym (take_all (length log) log (omega arith))))
 

@@ -1,8 +1,7 @@
 -- The archive of a log, a format of this project's own: the lines that `replay` reads in the log's
 -- place.
-use Rattle.std.specs.Prelude.{ℕ, ◌==◌, Bool, not, ◌&&◌, if◌then◌else◌, List, [], ◌∷◌, ◌++◌}
-use Rattle.std.specs.Prelude.{drop, flat_map}
-use Rattle.std.specs.List.{list_any}
+use Rattle.std.specs.Prelude.{ℕ, ◌==◌, Bool, not, ◌&&◌, if◌then◌else◌, List, [], ◌∷◌, ◌++◌, drop}
+use Rattle.std.specs.{Prelude.flat_map, List.list_any}
 use Rattle.acceptor.specs.declared.entry.Entry.{Entry}
 use Rattle.lines.specs.Lines.{is_line}
 

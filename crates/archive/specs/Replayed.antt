@@ -1,14 +1,11 @@
 -- What a replay gives of an archive (the project's own).
 use Rattle.std.specs.Prelude.{◌≡◌, ℕ, ◌+◌, ◌≤◌, Bool, true, if◌then◌else◌, List, ◌∷◌, ◌++◌, length}
 use Rattle.std.specs.List.{All}
-use Rattle.acceptor.specs.Entries.{IsText}
-use Rattle.acceptor.specs.declared.entry.Entry.{Entry}
-use Rattle.formats.specs.declared.events.Event.{Event}
-use Rattle.texts.specs.declared.answer.Answer.{Answer}
-use Rattle.texts.specs.declared.answer.Answer.TheVariants.{Refused}
+use Rattle.acceptor.specs.{Entries.IsText, declared.entry.Entry.Entry}
+use Rattle.formats.specs.declared.{events.Event.Event, styles.SheetStyle.SheetStyle as Style}
+use Rattle.texts.specs.declared.answer.Answer.{Answer, TheVariants.Refused}
 use Rattle.texts.specs.declared.answer.Code.TheVariants.{Unread}
 use Rattle.commands.specs.History.{history, answer_to}
-use Rattle.formats.specs.declared.styles.SheetStyle.{SheetStyle as Style}
 use Rattle.lines.specs.Lines.{is_within, lines_of}
 use Rattle.replay.specs.Replay.{entries, sheet_after}
 use Rattle.answers.specs.Answers.{texts, sheet_at}
@@ -31,8 +28,7 @@ pub record IsReplayed (log : List Entry) : Type 0 where
   pub count : length (archive log) ≡ length log
   -- answers the line of each entry as the hall answers the entry, but for an id that was there
   -- before
-  pub answers : (before : List Entry) (e : Entry) (behind : List Entry)
-      → log ≡ before ++ e ∷ behind
+  pub answers : (before : List Entry) (e : Entry) (behind : List Entry) → log ≡ before ++ e ∷ behind
       → answer_to (history (entries (archive before))) (length before + 1) (line_of before e)
       ≡ replayed (has_id before e.id) (answer_to (history (texts before)) e.id e.text)
   -- and gives each sheet of the log at its length

@@ -3,13 +3,12 @@
 ghost use Rattle.std.specs.Prelude.{◌≡◌, ◌⊎◌, Some, OnOk, OnErr, IfErr, slice_get, take};
 ghost use Rattle.std.specs.Io.KnownBytes.{Appends};
 ghost use Rattle.acceptor.specs.Entries.{IsText};
-ghost use Rattle.lines.specs.Bytes.{AppendsPart};
-ghost use Rattle.lines.specs.Lines.{is_line};
-ghost use Rattle.lines.specs.declared.fault.RunFault.TheVariants as run_fault;
+ghost use Rattle.lines.specs.{Bytes.AppendsPart, Lines.is_line};
 ghost use Rattle.learner.specs.Logs.{position_of};
 ghost use Rattle.archive.specs.Archive.{archive_from, archive_text, is_copied, line_of};
 ghost use Rattle.archive.specs.Replayed.{IsReplayed};
 ghost use Rattle.archive.specs.model.Firsts.{is_at, AddsFrom, AddsLine};
+ghost use Rattle.lines.specs.declared.fault.RunFault.TheVariants as run_fault;
 
 use crate::laws::archives_are_replayed;
 use acceptor::NoMemory;

@@ -1,18 +1,16 @@
 -- A replay is asked for alike in the whole program and in the one that has no other subcommand.
 use Rattle.std.proofs.Common.{◌≡◌, ◌∷◌, [], ◌∙◌, List, Option, Some, ap, codes, refl, sym}
 use Rattle.std.specs.List.{fold}
-use Rattle.clap.proofs.OnLiterals.{clap_on_literals}
-use Rattle.clap.proofs.WalkLemmas.{walk_stopped}
-use Rattle.clap.specs.Simple.{built, entered, names_of}
+use Rattle.clap.proofs.{OnLiterals.clap_on_literals, WalkLemmas.walk_stopped}
+use Rattle.clap.specs.{Simple.built, Simple.entered, Simple.names_of, Words.subcommand_of}
 use Rattle.clap.specs.Walk.{Walk, nothing_held, stop_after, walk_from, walked}
-use Rattle.clap.specs.Words.{App, Text, subcommand_of}
-use Rattle.clap.specs.declared.builder.value_parser.ValueParser.{ValueParser}
-use Rattle.clap.specs.declared.builder.value_parser.ValueParser.TheVariants as parser
+use Rattle.clap.specs.{Words.App, Words.Text, declared.builder.value_parser.ValueParser.ValueParser}
 use Rattle.arguments.specs.Asking.{Asks, ImportParsers, Parsers, desk_arguments}
 use Rattle.arguments.specs.Laws.{ReplayIsAskedAlike}
-use Rattle.arguments.specs.declared.task.Task.TheVariants as task
 use Rattle.replay_arguments.specs.Asking.{Asks as AsksReplay, RoundParsers, replay_program}
 use Rattle.replay_arguments.specs.declared.replay.ReplayTask.{ReplayTask}
+use Rattle.clap.specs.declared.builder.value_parser.ValueParser.TheVariants as parser
+use Rattle.arguments.specs.declared.task.Task.TheVariants as task
 
 -- the walk that has met the subcommand `replay` and no word after it
 abbrev met : Walk
@@ -29,8 +27,7 @@ stops : (a : App) (rest : List Text) → after_one a ≡ met
 stops a rest one =
     let rules = (built a).top.rules in
     let names = names_of (built a) in
-    ap (λ (w : Walk). (fold (walked rules names) w rest).stopped) one
-    ∙ sym
+    ap (λ (w : Walk). (fold (walked rules names) w rest).stopped) one ∙ sym
     (ap (λ (w : Walk). w.stopped)
     (walk_stopped rules names (walk_from nothing_held) (codes "replay") [] rest))
 
@@ -53,16 +50,13 @@ read_alike : (p : Parsers) (own : Text) (rest : List Text)
     ≡ subcommand_of (replay_program p.replay) (own ∷ codes "replay" ∷ rest)
 read_alike p own rest =
     ap (entered (built (desk_arguments p))) (stops (desk_arguments p) rest (met_in_desk p))
-    ∙ entered_alike p rest
-    ∙ sym
-    (ap (entered (built (replay_program p.replay)))
+    ∙ entered_alike p rest ∙ sym (ap (entered (built (replay_program p.replay)))
     (stops (replay_program p.replay) rest (met_alone p.replay)))
 
 -- texts that are accepted, as a parser has them
 accepted : Text → Option ValueParser
 accepted text =
-    Some
-    (parser.Names
+    Some (parser.Names
     (record { ref_ptr = (0, 0); now = record { ref_ptr = (0, 0); now = text } ∷ [] }))
 
 -- some parsers of `import`, which are never asked here
@@ -77,8 +71,7 @@ some_imported = record {
   named = record { names = _; parsed = refl; are = refl };
 }
 
-up : (own : Text) (rest : List Text) (t : ReplayTask)
-    → AsksReplay (own ∷ codes "replay" ∷ rest) t
+up : (own : Text) (rest : List Text) (t : ReplayTask) → AsksReplay (own ∷ codes "replay" ∷ rest) t
     → Asks (own ∷ codes "replay" ∷ rest) (task.Replay t)
 up own rest t (p, (name, rows, found, named, asked)) =
     let both : Parsers = record { replay = p; sheet = p; imported = some_imported } in

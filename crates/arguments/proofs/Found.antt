@@ -1,14 +1,12 @@
 -- What was found in the arguments.
-use Rattle.std.proofs.Common.{◌≡◌, ◌∙◌, ap, sym, subst, ℕ, List, Bor, IfSome, Option}
-use Rattle.std.proofs.Common.{None, Some, option_map}
+use Rattle.std.proofs.Common.{◌≡◌, ◌∙◌, ap, sym, subst, ℕ, List, Bor, IfSome, Option, None, Some}
+use Rattle.std.proofs.Common.{option_map}
 use Rattle.clap.specs.Words.{Row, Text, first_of, first_value, rows_of}
-use Rattle.clap.specs.declared.parser.matches.Found.{Found}
-use Rattle.clap.proofs.WalkLemmas.{first_value-rows}
+use Rattle.clap.{specs.declared.parser.matches.Found.Found, proofs.WalkLemmas.first_value-rows}
 use Rattle.arguments.specs.Asking.{Finds, HasId, HasIds, IsEntered, IsRequest, IsTask}
 use Rattle.wire.specs.Ranges.{IsId}
-use Rattle.arguments.specs.declared.task.ClientRequest.{ClientRequest}
+use Rattle.arguments.specs.declared.task.{ClientRequest.ClientRequest, Task.Task}
 use Rattle.arguments.specs.declared.task.ClientRequest.TheVariants as request
-use Rattle.arguments.specs.declared.task.Task.{Task}
 use Rattle.arguments.specs.declared.task.Task.TheVariants as task
 
 pub none_found : (f : Found) (id : Text) (r : Option (Bor Text))
@@ -18,8 +16,7 @@ none_found f id (Some t) h is = cc
 
 -- what was given was not left out
 pub is_given : (f : Found) (id : Text) (r : Option (Bor Text)) (t : Bor Text)
-    → option_map (λ s. s.now) r ≡ first_value f id → r ≡ Some t
-    → first_of id (rows_of f) ≡ None → ⊥
+    → option_map (λ s. s.now) r ≡ first_value f id → r ≡ Some t → first_of id (rows_of f) ≡ None → ⊥
 is_given f id None t h is none = cc
 is_given f id (Some u) t h is none = let there = h ∙ first_value-rows f id ∙ none in cc
 
@@ -39,9 +36,7 @@ task_renamed name other rows t is h =
 
 request_ids : (r : ClientRequest) (name : Text) (rows : List Row) → IsRequest r name rows → HasId r
 request_ids (request.Ask id) name rows h = h.1
-request_ids (request.Sheet event round position style) name rows h = tt
-request_ids request.Tick name rows h = tt
-request_ids request.Stop name rows h = tt
+request_ids _ name rows h = tt
 
 entered_ids : (id : Option ℕ) (words : List Text) (rows : List Row) → IsEntered id words rows
     → IfSome id IsId
@@ -50,19 +45,7 @@ entered_ids (Some id) words rows h = h.0
 
 -- what was found has its ids in their range
 pub found_ids : (found : Option (Text × List Row)) (t : Task) → Finds found t → HasIds t
-found_ids found (task.Replay replay) h = tt
-found_ids found (task.Import file options) h = tt
-found_ids found (task.Export file running) h = tt
-found_ids found task.Results h = tt
-found_ids found (task.Hall desks) h = tt
-found_ids found (task.HallFile hall addresses keys) h = tt
-found_ids found (task.Key file) h = tt
 found_ids found (task.Carry place patience request) h = request_ids request h.0 h.1 h.3.0
-found_ids found (task.Newest place patience event round style) h = tt
 found_ids found (task.Enter place patience id words waits) h = entered_ids id _ h.1 h.3.2
 found_ids found (task.EnterLines place patience lines) h = h.3.2.first_id.in_range
-found_ids found (task.Log store) h = tt
-found_ids found (task.CopyLog place patience start form) h = tt
-found_ids found (task.Status desks patience json watches all) h = tt
-found_ids found (task.Serve service) h = tt
-found_ids found (task.ServeHall file wanted) h = tt
+found_ids found _ h = tt

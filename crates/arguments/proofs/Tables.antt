@@ -1,37 +1,16 @@
 -- Arguments and subcommands that tables describe.
-use Rattle.std.proofs.Common.{◌≡◌, ◌∙◌, ◌+◌, ◌<◌, ◌≤◌, ◌==◌, ◌++◌, ◌&&◌, [], ◌∷◌}
-use Rattle.std.proofs.Common.{ap, arith, refl, sym}
-use Rattle.std.proofs.Common.{false, true, not, Bool, Bor, IfOk, List, ℕ, Option, Some}
-use Rattle.std.proofs.Common.{Result, Ok, Err, None, drop, get_or, length, map}
-use Rattle.std.specs.Prelude.{IsSomeAnd}
-use Rattle.std.proofs.lemmas.Bool.{ne_eqb}
-use Rattle.std.proofs.lemmas.List.{at_drop_all, at_drop_more, length-map}
-use Rattle.std.specs.List.{fold}
-use Rattle.clap.specs.Adds.{AddsConflicts, AddsRequirements}
-use Rattle.clap.specs.Walk.{is_empty, is_free_arg}
+use Rattle.std.proofs.Common.{◌≡◌, ◌∙◌, ◌+◌, ◌<◌, ◌≤◌, ◌==◌, ◌++◌, ◌&&◌, [], ◌∷◌, ap, arith, refl}
+use Rattle.std.proofs.Common.{sym, false, true, not, Bool, Bor, IfOk, List, ℕ, Result, Ok, Err, map}
+use Rattle.std.{proofs.Common.drop, proofs.Common.get_or, proofs.Common.length, specs.List.fold}
+use Rattle.std.proofs.lemmas.{Bool.ne_eqb, List.at_drop_all, List.at_drop_more, List.length-map}
+use Rattle.clap.specs.{Adds.AddsConflicts, Adds.AddsRequirements, Walk.is_empty, Walk.is_free_arg}
 use Rattle.clap.specs.Words.{App, Rule, app_of, rule_of, with_subcommand}
-use Rattle.clap.specs.declared.builder.arg.Arg.{Arg}
-use Rattle.clap.specs.declared.builder.arg.ArgPredicate.{ArgPredicate}
-use Rattle.clap.specs.declared.builder.command.Command.{Command}
-use Rattle.clap.specs.declared.builder.range.ValueRange.{ValueRange}
-use Rattle.clap.specs.declared.builder.command.Command.TheViews.{out-Command as fields_of}
+use Rattle.clap.specs.declared.builder.arg.{Arg.Arg, ArgPredicate.ArgPredicate}
+use Rattle.clap.specs.declared.builder.command.Command.{Command, TheViews.out-Command as fields_of}
 use Rattle.arguments.specs.Arguments.{IsCommand, several}
-use Rattle.arguments.specs.Tables.{bound_rule}
-use Rattle.arguments.specs.declared.described.Argument.{Argument}
+use Rattle.arguments.specs.{Tables.bound_rule, declared.described.Argument.Argument}
 
 -- ---- an argument with several values
-
-some_and : (o : Option ValueRange) (r : ValueRange) → IsSomeAnd o (λ x. x ≡ r) → o ≡ Some r
-some_and None r h = absurd h
-some_and (Some x) r h = ap (λ y. Some y) h
-
-pub ranged : (old new : Arg) (low high : ℕ) → new ≡ record old { num_vals = new.num_vals }
-    → IsSomeAnd new.num_vals
-    (λ r. r ≡ record { start_inclusive = low; end_inclusive = high })
-    → rule_of new ≡ several low high (rule_of old)
-ranged old new low high is given =
-    ap rule_of is
-    ∙ ap (λ range. record (rule_of old) { range = range }) (some_and new.num_vals _ given)
 
 -- ---- one after the other
 
@@ -92,8 +71,7 @@ excluded old new others h =
     is_empty old.needs.items && (is_empty old.r_ifs.items && (is_empty old.r_ifs_all.items
     && (is_empty old.r_unless.items && is_empty old.r_unless_all.items))) in
     let free : is_free_arg new ≡ (is_free_arg old && is_empty others) =
-    ap is_free_arg h.0
-    ∙ ap (λ e. not old.exclusive && (e && rest))
+    ap is_free_arg h.0 ∙ ap (λ e. not old.exclusive && (e && rest))
     (ap is_empty h.1 ∙ empty_append old.conflicts.items others)
     ∙ one_out (not old.exclusive) (is_empty old.conflicts.items) (is_empty others) rest in
     ap (λ (r : Rule). record r { is_free = is_free_arg new }) (ap rule_of h.0)
@@ -118,8 +96,7 @@ needing old new others h =
 pub bound : (a : Argument) (r : Rule) (first plain alone last : Arg)
     (named : Bor (List ℕ) → ArgPredicate × Bor (List ℕ))
     → rule_of first ≡ r → plain ≡ record first { required = a.required }
-    → AddsConflicts plain alone a.without.now
-    → AddsRequirements alone last (map named a.needs.now)
+    → AddsConflicts plain alone a.without.now → AddsRequirements alone last (map named a.needs.now)
     → rule_of last ≡ bound_rule a r
 bound a r first plain alone last named is required conflicts needs =
     let one : rule_of plain ≡ record r { required = a.required } =

@@ -6,8 +6,7 @@ use Rattle.clap.specs.Words.{Text}
 
 -- the id is before all that are left
 pub id_before : (words : List (Bor Text)) (d : Bor Text) (id : ℕ) → 1 ≤ length words
-    → (get_or words 0 d).now ≡ decimal id
-    → map (λ w. w.now) words
+    → (get_or words 0 d).now ≡ decimal id → map (λ w. w.now) words
     ≡ decimal id ∷ map (λ w. w.now) (take (length words - 1) (drop 1 words))
 id_before [] d id some is = absurd (omega (arith, some))
 id_before (word ∷ more) d id some is =

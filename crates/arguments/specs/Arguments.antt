@@ -1,8 +1,7 @@
 -- The arguments of subcommands, as the parser knows them, and what a number is (in the words of the
 -- crate `clap`).
-use Rattle.std.specs.Borrow.{Bor}
-use Rattle.std.specs.Prelude.{◌≡◌, ◌⊎◌, true, false, ℕ, List, codes, decimal, option_map}
-use Rattle.std.specs.Prelude.{Option, None, Some}
+use Rattle.std.specs.{Borrow.Bor, Prelude.None, Prelude.Some}
+use Rattle.std.specs.Prelude.{◌≡◌, ◌⊎◌, true, false, ℕ, List, codes, decimal, option_map, Option}
 use Rattle.clap.specs.Words.{App, Row, Rule, Text, first_of, new_app, with_rule}
 use Rattle.clap.specs.declared.builder.ArgAction.TheVariants.{Append}
 use Rattle.clap.specs.declared.builder.value_parser.ValueParser.{ValueParser}
@@ -71,17 +70,14 @@ abbrev pub located_arguments : Text → App
 located_arguments name =
     with_rule (with_rule (with_rule (new_app name)
     (bound (optional_value_rule (codes "config") any_text)))
-    (bound (optional_rule (codes "hall") 0 4294967295)))
-    key_rule
+    (bound (optional_rule (codes "hall") 0 4294967295))) key_rule
 
 -- the arguments that every subcommand has that asks a desk
 abbrev pub errand_arguments : Text → App
 errand_arguments name =
     with_rule (with_rule (with_rule (with_rule (located_arguments name)
-    (optional_rule (codes "desk") 0 255))
-    (bound (optional_value_rule (codes "to") any_text)))
-    wait_seconds_rule)
-    explain_rule
+    (optional_rule (codes "desk") 0 255)) (bound (optional_value_rule (codes "to") any_text)))
+    wait_seconds_rule) explain_rule
 
 -- the first value of the argument is this number in decimal, without a sign or leading zeros
 abbrev pub IsNumberAt : Text → List Row → ℕ → Type 0
@@ -94,8 +90,7 @@ IsGiven id rows None = first_of id rows ≡ None
 
 -- the number that is given, or this one where none is
 abbrev pub IsNumberOr : Text → ℕ → List Row → ℕ → Type 0
-IsNumberOr id other rows n =
-    IsNumberAt id rows n ⊎ ((first_of id rows ≡ None) × (n ≡ other))
+IsNumberOr id other rows n = IsNumberAt id rows n ⊎ ((first_of id rows ≡ None) × (n ≡ other))
 
 -- the text that is given, or that none is
 abbrev pub IsText : Text → List Row → Option (Bor Text) → Type 0

@@ -2,42 +2,31 @@
 -- is the value of which name.
 use Rattle.std.specs.Prelude.{◌≡◌, ◌≤◌, ◌&&◌, ◌||◌, true, false, Bool, ℕ, List, [], ◌∷◌, codes}
 use Rattle.std.specs.Prelude.{decimal, length, map, nat_le, Option, None, Some, IfSome}
-use Rattle.clap.specs.Words.{App, Row, Text, all_of, first_of, new_app, subcommand_of}
-use Rattle.clap.specs.Words.{with_rule, with_subcommand}
-use Rattle.formats.specs.declared.styles.SheetStyle.{SheetStyle}
-use Rattle.formats.specs.declared.styles.SheetStyle.TheVariants as asked
-use Rattle.wire.specs.declared.values.Version.{Version}
-use Rattle.wire.specs.declared.values.Version.TheVariants as version
-use Rattle.wire.specs.Ranges.{IsId}
-use Rattle.clap.specs.declared.builder.value_parser.ValueParser.{ValueParser}
-use Rattle.wcif.specs.declared.options.CumulativeLimits.{CumulativeLimits}
-use Rattle.wcif.specs.declared.options.CumulativeLimits.TheVariants as limits
-use Rattle.wcif.specs.declared.options.Edition.{Edition}
-use Rattle.wcif.specs.declared.options.Edition.TheVariants as edition
-use Rattle.wcif.specs.declared.options.SameNames.{SameNames}
-use Rattle.wcif.specs.declared.options.SameNames.TheVariants as names
-use Rattle.wcif.specs.declared.options.Options.{Options}
+use Rattle.clap.specs.Words.{App, Row, Text, all_of, first_of, new_app, subcommand_of, with_rule}
+use Rattle.clap.specs.{Words.with_subcommand, declared.builder.value_parser.ValueParser.ValueParser}
+use Rattle.formats.specs.{declared.styles.SheetStyle.SheetStyle, Events.event_of_name}
+use Rattle.wire.specs.{declared.values.Version.Version, Ranges.IsId}
+use Rattle.wcif.specs.declared.options.{CumulativeLimits.CumulativeLimits, Edition.Edition}
+use Rattle.wcif.specs.declared.options.{SameNames.SameNames, Options.Options}
 use Rattle.arguments.specs.Arguments.{IsFlag, IsGiven, IsNumberAt, IsNumberOr, IsOneOf, IsText}
-use Rattle.arguments.specs.Arguments.{IsTextOr}
-use Rattle.arguments.specs.Arguments.{any_text, bound, csv_rule, errand_arguments, explain_rule}
-use Rattle.arguments.specs.Arguments.{flag_rule, last_value_rule, located_arguments, numbers}
-use Rattle.arguments.specs.Arguments.{option_rule, optional_rule, optional_value_rule}
-use Rattle.arguments.specs.Arguments.{optional_values_rule, required_flag_rule, several}
-use Rattle.arguments.specs.Arguments.{value_rule, values_rule, wait_seconds_rule}
-use Rattle.hall_file.specs.declared.service.StoreOrigin.TheVariants.{AsNeeded}
-use Rattle.hall_file.specs.declared.service.Service.{Service}
-use Rattle.arguments.specs.declared.places.DeskPlaces.{DeskPlaces}
+use Rattle.arguments.specs.Arguments.{IsTextOr, any_text, bound, values_rule, wait_seconds_rule}
+use Rattle.arguments.specs.{Arguments.csv_rule, Arguments.errand_arguments, declared.task.Task.Task}
+use Rattle.arguments.specs.Arguments.{explain_rule, flag_rule, last_value_rule, located_arguments}
+use Rattle.arguments.specs.Arguments.{numbers, option_rule, optional_rule, optional_value_rule}
+use Rattle.arguments.specs.Arguments.{optional_values_rule, required_flag_rule, several, value_rule}
+use Rattle.hall_file.specs.declared.service.{StoreOrigin.TheVariants.AsNeeded, Service.Service}
+use Rattle.arguments.specs.declared.places.{DeskPlaces.DeskPlaces, Place.Place}
+use Rattle.arguments.specs.declared.task.{HallService.HallService, EnterOptions.EnterOptions}
+use Rattle.arguments.specs.declared.task.{LogFormOption.LogFormOption, ClientRequest.ClientRequest}
+use Rattle.formats.specs.declared.styles.SheetStyle.TheVariants as asked
+use Rattle.wire.specs.declared.values.Version.TheVariants as version
+use Rattle.wcif.specs.declared.options.CumulativeLimits.TheVariants as limits
+use Rattle.wcif.specs.declared.options.Edition.TheVariants as edition
+use Rattle.wcif.specs.declared.options.SameNames.TheVariants as names
 use Rattle.arguments.specs.declared.places.DeskPlaces.TheVariants as desks
-use Rattle.arguments.specs.declared.places.Place.{Place}
 use Rattle.arguments.specs.declared.places.Place.TheVariants as place
-use Rattle.arguments.specs.declared.task.HallService.{HallService}
-use Rattle.arguments.specs.declared.task.EnterOptions.{EnterOptions}
-use Rattle.arguments.specs.declared.task.LogFormOption.{LogFormOption}
 use Rattle.arguments.specs.declared.task.LogFormOption.TheVariants as log_form
-use Rattle.formats.specs.Events.{event_of_name}
-use Rattle.arguments.specs.declared.task.ClientRequest.{ClientRequest}
 use Rattle.arguments.specs.declared.task.ClientRequest.TheVariants as request
-use Rattle.arguments.specs.declared.task.Task.{Task}
 use Rattle.arguments.specs.declared.task.Task.TheVariants as task
 pub use Rattle.replay_arguments.specs.Asking.{RoundParsers, replay_arguments, named_app}
 pub use Rattle.replay_arguments.specs.Asking.{IsRound, IsReplay}
@@ -50,51 +39,37 @@ hall_arguments = with_rule (new_app (codes "hall")) (value_rule (codes "desks") 
 abbrev pub hall_file_arguments : App
 hall_file_arguments =
     with_rule (with_rule (with_rule (new_app (codes "hall-file"))
-    (option_rule (codes "hall") (numbers 0 4294967295)))
-    (flag_rule (codes "keys")))
+    (option_rule (codes "hall") (numbers 0 4294967295))) (flag_rule (codes "keys")))
     (values_rule (codes "addr") any_text)
 
 abbrev pub key_arguments : App
-key_arguments =
-    with_rule (new_app (codes "key")) (optional_value_rule (codes "file") any_text)
+key_arguments = with_rule (new_app (codes "key")) (optional_value_rule (codes "file") any_text)
 
 abbrev pub serve_arguments : App
 serve_arguments =
     with_rule (with_rule (with_rule (with_rule (with_rule (with_rule (with_rule (with_rule
     (with_rule (with_rule (with_rule (with_rule (with_rule (with_rule
-    (located_arguments (codes "serve"))
-    (option_rule (codes "desk") (numbers 0 255)))
-    (option_rule (codes "store") any_text))
-    (bound (flag_rule (codes "new"))))
-    (bound (flag_rule (codes "new-hall"))))
-    (optional_rule (codes "patience") 1 86400))
-    (optional_rule (codes "connections") 1 1000000))
-    (optional_rule (codes "wire") 1 2))
-    (optional_rule (codes "tick") 100 60000))
-    (flag_rule (codes "quiet")))
+    (located_arguments (codes "serve")) (option_rule (codes "desk") (numbers 0 255)))
+    (option_rule (codes "store") any_text)) (bound (flag_rule (codes "new"))))
+    (bound (flag_rule (codes "new-hall")))) (optional_rule (codes "patience") 1 86400))
+    (optional_rule (codes "connections") 1 1000000)) (optional_rule (codes "wire") 1 2))
+    (optional_rule (codes "tick") 100 60000)) (flag_rule (codes "quiet")))
     (optional_value_rule (codes "entry-key") any_text))
-    (bound (optional_value_rule (codes "old-key") any_text)))
-    (flag_rule (codes "open-sheets")))
-    explain_rule)
-    (bound (optional_values_rule (codes "addr") any_text))
+    (bound (optional_value_rule (codes "old-key") any_text))) (flag_rule (codes "open-sheets")))
+    explain_rule) (bound (optional_values_rule (codes "addr") any_text))
 
 abbrev pub log_arguments : App
 log_arguments =
     with_rule (with_rule (with_rule (with_rule (errand_arguments (codes "log"))
-    (bound (optional_value_rule (codes "store") any_text)))
-    (optional_rule (codes "from") 0 65536))
-    (flag_rule (codes "long")))
-    (several 1 5 (optional_value_rule (codes "who") any_text))
+    (bound (optional_value_rule (codes "store") any_text))) (optional_rule (codes "from") 0 65536))
+    (flag_rule (codes "long"))) (several 1 5 (optional_value_rule (codes "who") any_text))
 
 abbrev pub status_arguments : App
 status_arguments =
     with_rule (with_rule (with_rule (with_rule (with_rule (with_rule
     (located_arguments (codes "status"))
-    (bound (several 1 5 (optional_value_rule (codes "to") any_text))))
-    wait_seconds_rule)
-    (flag_rule (codes "json")))
-    (flag_rule (codes "watch")))
-    (bound (flag_rule (codes "all"))))
+    (bound (several 1 5 (optional_value_rule (codes "to") any_text)))) wait_seconds_rule)
+    (flag_rule (codes "json"))) (flag_rule (codes "watch"))) (bound (flag_rule (codes "all"))))
     explain_rule
 
 -- the edition, how cumulative limits and how same names are imported, as it is typed
@@ -119,8 +94,7 @@ pub record ImportParsers : Type 0 where
 abbrev pub import_arguments : ImportParsers → App
 import_arguments p =
     with_rule (with_rule (with_rule (with_rule (new_app (codes "import"))
-    (option_rule (codes "wcif") any_text))
-    (optional_value_rule (codes "edition") p.edition))
+    (option_rule (codes "wcif") any_text)) (optional_value_rule (codes "edition") p.edition))
     (optional_value_rule (codes "cumulative") p.limits))
     (optional_value_rule (codes "same-names") p.names)
 
@@ -134,17 +108,14 @@ results_arguments = with_rule (new_app (codes "results")) (required_flag_rule (c
 
 abbrev pub enter_arguments : App
 enter_arguments =
-    with_rule (with_rule (errand_arguments (codes "enter"))
-    (flag_rule (codes "wait")))
+    with_rule (with_rule (errand_arguments (codes "enter")) (flag_rule (codes "wait")))
     (values_rule (codes "words") any_text)
 
 abbrev pub lines_arguments : App
 lines_arguments =
     with_rule (with_rule (with_rule (with_rule (with_rule (errand_arguments (codes "enter-lines"))
-    (optional_rule (codes "first-id") 1 9223372036854775807))
-    (flag_rule (codes "wait")))
-    (flag_rule (codes "progress")))
-    (flag_rule (codes "stop-at-refusal")))
+    (optional_rule (codes "first-id") 1 9223372036854775807)) (flag_rule (codes "wait")))
+    (flag_rule (codes "progress"))) (flag_rule (codes "stop-at-refusal")))
     (flag_rule (codes "send-all"))
 
 abbrev pub ask_arguments : App
@@ -155,10 +126,8 @@ ask_arguments =
 abbrev pub sheet_arguments : RoundParsers → App
 sheet_arguments p =
     with_rule (with_rule (with_rule (with_rule (errand_arguments (codes "sheet"))
-    (value_rule (codes "event") p.events))
-    (value_rule (codes "round") p.rounds))
-    (last_value_rule (codes "position") (numbers 0 4294967295)))
-    csv_rule
+    (value_rule (codes "event") p.events)) (value_rule (codes "round") p.rounds))
+    (last_value_rule (codes "position") (numbers 0 4294967295))) csv_rule
 
 -- the texts that are accepted at `replay`, at `sheet` and at `import`
 pub record Parsers : Type 0 where
@@ -171,23 +140,11 @@ desk_arguments p =
     with_subcommand (with_subcommand (with_subcommand (with_subcommand (with_subcommand
     (with_subcommand (with_subcommand (with_subcommand (with_subcommand (with_subcommand
     (with_subcommand (with_subcommand (with_subcommand (with_subcommand (with_subcommand
-    (with_subcommand named_app
-    (replay_arguments p.replay).top)
-    (import_arguments p.imported).top)
-    export_arguments.top)
-    results_arguments.top)
-    hall_arguments.top)
-    hall_file_arguments.top)
-    key_arguments.top)
-    serve_arguments.top)
-    status_arguments.top)
-    log_arguments.top)
-    enter_arguments.top)
-    lines_arguments.top)
-    ask_arguments.top)
-    (sheet_arguments p.sheet).top)
-    (errand_arguments (codes "tick")).top)
-    (errand_arguments (codes "stop")).top
+    (with_subcommand named_app (replay_arguments p.replay).top) (import_arguments p.imported).top)
+    export_arguments.top) results_arguments.top) hall_arguments.top) hall_file_arguments.top)
+    key_arguments.top) serve_arguments.top) status_arguments.top) log_arguments.top)
+    enter_arguments.top) lines_arguments.top) ask_arguments.top) (sheet_arguments p.sheet).top)
+    (errand_arguments (codes "tick")).top) (errand_arguments (codes "stop")).top
 
 -- ---- what their values say
 
@@ -268,8 +225,7 @@ abbrev pub IsEntered : Option ℕ → List Text → List Row → Type 0
 IsEntered (Some id) words rows =
     IsId id × (all_of (codes "words") rows ≡ Some (decimal id ∷ words))
     × (are_command (decimal id ∷ words) ≡ false)
-IsEntered None words rows =
-    (all_of (codes "words") rows ≡ Some words) × (are_command words ≡ true)
+IsEntered None words rows = (all_of (codes "words") rows ≡ Some words) × (are_command words ≡ true)
 
 -- the id of the first line, or that none is given
 pub record IsFirstId (id : Option ℕ) (rows : List Row) : Type 0 where
@@ -313,8 +269,7 @@ pub record IsService (s : Service) (rows : List Row) : Type 0 where
 
 -- a store is made with `--new`, and in a hall that is new as a whole
 abbrev pub Makes : List Row → (makes new_hall : Bool) → Type 0
-Makes rows makes new_hall =
-    (new : Bool) × IsFlag (codes "new") rows new × (makes ≡ new || new_hall)
+Makes rows makes new_hall = (new : Bool) × IsFlag (codes "new") rows new × (makes ≡ new || new_hall)
 
 -- of a desk of a file's hall the same, whether its store is made, whether all its desks are new,
 -- and after how many milliseconds it ticks itself, 1,000 where none are given
@@ -344,14 +299,12 @@ pub record IsStored (store : Text) (rows : List Row) : Type 0 where
 abbrev pub AreWhose : List Text → LogFormOption → Type 0
 AreWhose words (log_form.ChangesOf event round number) =
     (name : Text) × (event_of_name name ≡ Some event) × (1 ≤ round) × (round ≤ 4)
-    × (1 ≤ number) × (number ≤ 9999)
-    × (words ≡ name ∷ decimal round ∷ decimal number ∷ [])
+    × (1 ≤ number) × (number ≤ 9999) × (words ≡ name ∷ decimal round ∷ decimal number ∷ [])
 AreWhose words _ = ⊥
 
 -- the form of a log: lines, or with `--long` rows, or with `--who` those of one result
 abbrev pub IsForm : List Row → LogFormOption → Type 0
-IsForm rows log_form.Lines =
-    IsFlag (codes "long") rows false × (all_of (codes "who") rows ≡ None)
+IsForm rows log_form.Lines = IsFlag (codes "long") rows false × (all_of (codes "who") rows ≡ None)
 IsForm rows log_form.Rows = IsFlag (codes "long") rows true × (all_of (codes "who") rows ≡ None)
 IsForm rows (log_form.ChangesOf event round number) =
     (words : List Text) × (all_of (codes "who") rows ≡ Some words)
@@ -366,20 +319,17 @@ pub record IsCopied (p : Place) (patience start : ℕ) (rows : List Row) : Type 
 
 -- the edition with which the list begins: 3 with `--edition 3`, else 4
 pub record IsEdition (rows : List Row) (begun : Edition) : Type 0 where
-  pub given : (text : Text) → first_of (codes "edition") rows ≡ Some text
-      → begun ≡ edition.Three
+  pub given : (text : Text) → first_of (codes "edition") rows ≡ Some text → begun ≡ edition.Three
   pub none : first_of (codes "edition") rows ≡ None → begun ≡ edition.Four
 
 -- what becomes of time limits for several attempts together: `--cumulative as-single`, or nothing
 pub record IsLimits (rows : List Row) (way : CumulativeLimits) : Type 0 where
-  pub given : (text : Text) → first_of (codes "cumulative") rows ≡ Some text
-      → way ≡ limits.AsSingle
+  pub given : (text : Text) → first_of (codes "cumulative") rows ≡ Some text → way ≡ limits.AsSingle
   pub none : first_of (codes "cumulative") rows ≡ None → way ≡ limits.Refuse
 
 -- what becomes of a name that several persons have: `--same-names id`, or nothing
 pub record IsNames (rows : List Row) (way : SameNames) : Type 0 where
-  pub given : (text : Text) → first_of (codes "same-names") rows ≡ Some text
-      → way ≡ names.WithId
+  pub given : (text : Text) → first_of (codes "same-names") rows ≡ Some text → way ≡ names.WithId
   pub none : first_of (codes "same-names") rows ≡ None → way ≡ names.Refuse
 
 -- a competition's file, and how it is imported
@@ -397,8 +347,7 @@ IsTask (task.Export file running) name rows =
     (name ≡ codes "export") × (first_of (codes "wcif") rows ≡ Some file.now)
     × IsFlag (codes "running") rows running
 IsTask task.Results name rows = (name ≡ codes "results") × IsFlag (codes "json") rows true
-IsTask (task.Hall desks) name rows =
-    (name ≡ codes "hall") × IsNumberAt (codes "desks") rows desks
+IsTask (task.Hall desks) name rows = (name ≡ codes "hall") × IsNumberAt (codes "desks") rows desks
 IsTask (task.HallFile hall addresses keys) name rows =
     (name ≡ codes "hall-file") × IsNumberAt (codes "hall") rows hall
     × (all_of (codes "addr") rows ≡ Some (map (λ a. a.now) addresses.now))
@@ -411,16 +360,14 @@ IsTask (task.Newest place patience event round style) name rows =
     × IsAsked rows style × (first_of (codes "position") rows ≡ None)
 IsTask (task.Enter place patience id words waits) name rows =
     (name ≡ codes "enter") × IsPlaced place patience rows
-    × IsEntered id (map (λ w. w.now) words.now) rows
-    × IsFlag (codes "wait") rows waits
+    × IsEntered id (map (λ w. w.now) words.now) rows × IsFlag (codes "wait") rows waits
 IsTask (task.EnterLines place patience lines) name rows =
     (name ≡ codes "enter-lines") × IsPlaced place patience rows × AreLines lines rows
 IsTask (task.Log store) name rows = (name ≡ codes "log") × IsStored store.now rows
 IsTask (task.CopyLog place patience start form) name rows =
     (name ≡ codes "log") × IsCopied place patience start rows × IsForm rows form
 IsTask (task.Status desks patience json watches all) name rows =
-    (name ≡ codes "status") × AreDesks desks rows
-    × IsNumberOr (codes "patience") 10 rows patience
+    (name ≡ codes "status") × AreDesks desks rows × IsNumberOr (codes "patience") 10 rows patience
     × IsFlag (codes "json") rows json × IsFlag (codes "watch") rows watches
     × IsFlag (codes "all") rows all
 IsTask (task.Serve service) name rows =
@@ -432,28 +379,14 @@ IsTask (task.ServeHall file wanted) name rows =
 -- the id of a request is in its range
 abbrev pub HasId : ClientRequest → Type 0
 HasId (request.Ask id) = IsId id
-HasId (request.Sheet event round position style) = Unit {0}
-HasId request.Tick = Unit {0}
-HasId request.Stop = Unit {0}
+HasId _ = Unit {0}
 
 -- the ids of a task are in their range
 abbrev pub HasIds : Task → Type 0
-HasIds (task.Replay replay) = Unit {0}
-HasIds (task.Import file options) = Unit {0}
-HasIds (task.Export file running) = Unit {0}
-HasIds task.Results = Unit {0}
-HasIds (task.Hall desks) = Unit {0}
-HasIds (task.HallFile hall addresses keys) = Unit {0}
-HasIds (task.Key file) = Unit {0}
 HasIds (task.Carry place patience request) = HasId request
-HasIds (task.Newest place patience event round style) = Unit {0}
 HasIds (task.Enter place patience id words waits) = IfSome id IsId
 HasIds (task.EnterLines place patience lines) = IfSome lines.first_id IsId
-HasIds (task.Log store) = Unit {0}
-HasIds (task.CopyLog place patience start form) = Unit {0}
-HasIds (task.Status desks patience json watches all) = Unit {0}
-HasIds (task.Serve service) = Unit {0}
-HasIds (task.ServeHall file wanted) = Unit {0}
+HasIds _ = Unit {0}
 
 abbrev pub Finds : Option (Text × List Row) → Task → Type 0
 Finds found t = (name : Text) × (rows : List Row) × (found ≡ Some (name, rows)) × IsTask t name rows

@@ -2,9 +2,8 @@
 use Rattle.std.specs.Prelude.{◌∷◌, List, codes}
 use Rattle.clap.specs.Words.{Text}
 use Rattle.arguments.specs.Asking.{Asks}
+use Rattle.replay_arguments.specs.{Asking.Asks as AsksReplay, declared.replay.ReplayTask.ReplayTask}
 use Rattle.arguments.specs.declared.task.Task.TheVariants as task
-use Rattle.replay_arguments.specs.Asking.{Asks as AsksReplay}
-use Rattle.replay_arguments.specs.declared.replay.ReplayTask.{ReplayTask}
 
 -- arguments, of which the first is the program's own name and the second is `replay`, ask for a
 -- sheet where they ask the program that has no other subcommand for it, and only there

@@ -5,13 +5,11 @@ use Rattle.std.specs.Prelude.{◌&&◌, Bool, List, Option, Some, if◌then◌el
 use Rattle.clap.specs.Walk.{is_empty}
 use Rattle.clap.specs.Words.{App, Rule, Text, new_app, with_rule, with_subcommand}
 use Rattle.arguments.specs.Arguments.{any_text, flag_rule, numbers, several, value_rule}
-use Rattle.arguments.specs.Arguments.{values_rule}
+use Rattle.arguments.specs.{Arguments.values_rule, declared.described.ArgumentKind.ArgumentKind}
 use Rattle.arguments.specs.Asking.{ImportParsers, RoundParsers, export_arguments, hall_arguments}
 use Rattle.arguments.specs.Asking.{hall_file_arguments, import_arguments, key_arguments, named_app}
 use Rattle.arguments.specs.Asking.{replay_arguments, results_arguments, serve_arguments}
-use Rattle.arguments.specs.declared.described.Argument.{Argument}
-use Rattle.arguments.specs.declared.described.Subcommand.{Subcommand}
-use Rattle.arguments.specs.declared.described.ArgumentKind.{ArgumentKind}
+use Rattle.arguments.specs.declared.described.{Argument.Argument, Subcommand.Subcommand}
 use Rattle.arguments.specs.declared.described.ArgumentKind.TheVariants as takes
 
 -- an argument that takes this
@@ -36,8 +34,7 @@ placed_rule by_place id r = record r { long = if by_place then r.long else Some 
 
 -- the argument that is described
 abbrev pub described_rule : Argument → Rule
-described_rule a =
-    placed_rule a.by_place a.id.now (bound_rule a (taken_rule a.id.now a.takes))
+described_rule a = placed_rule a.by_place a.id.now (bound_rule a (taken_rule a.id.now a.takes))
 
 abbrev pub with_argument : App → Argument → App
 with_argument app a = with_rule app (described_rule a)
@@ -57,12 +54,6 @@ with_described app s = with_subcommand app (described_app s).top
 abbrev pub first_half : RoundParsers → ImportParsers → App
 first_half r i =
     with_subcommand (with_subcommand (with_subcommand (with_subcommand (with_subcommand
-    (with_subcommand (with_subcommand (with_subcommand named_app
-    (replay_arguments r).top)
-    (import_arguments i).top)
-    export_arguments.top)
-    results_arguments.top)
-    hall_arguments.top)
-    hall_file_arguments.top)
-    key_arguments.top)
-    serve_arguments.top
+    (with_subcommand (with_subcommand (with_subcommand named_app (replay_arguments r).top)
+    (import_arguments i).top) export_arguments.top) results_arguments.top) hall_arguments.top)
+    hall_file_arguments.top) key_arguments.top) serve_arguments.top

@@ -3,9 +3,8 @@
 ghost use Rattle.std.specs.Prelude.{◌≡◌, false, IfOk};
 ghost use Rattle.clap.specs.Words.{app_of, rule_of};
 ghost use Rattle.clap.specs.declared.builder.command.Command.TheViews.{out-Command as fields_of};
-ghost use Rattle.arguments.specs.Arguments.{IsCommand};
-ghost use Rattle.arguments.specs.Tables.{described_app, described_rule, taken_rule};
-ghost use Rattle.arguments.specs.Tables.{with_arguments, with_described};
+ghost use Rattle.arguments.specs.{Arguments.IsCommand, Tables.with_described};
+ghost use Rattle.arguments.specs.Tables.{described_app, described_rule, taken_rule, with_arguments};
 
 use clap::builder::ValueParser;
 use clap::{Arg, ArgAction, Command};

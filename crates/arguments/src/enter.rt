@@ -82,8 +82,7 @@ fn are_command(words: &[&str]) -> bool
 
 /// What the arguments of `enter` ask for.
 pub fn enter_of<'m, 'a: 'm>(found: &'m ArgMatches<'a>) -> Option<Task<'m>>
-    ensures { IfSome result
-        (λ task. IsTask task (codes "enter") (rows_of (found_of found.now))) }
+    ensures { IfSome result (λ task. IsTask task (codes "enter") (rows_of (found_of found.now))) }
 {
     let (place, patience) = placed(found)?;
     let waits = flag_at(found, "wait");

@@ -56,8 +56,7 @@ pub fn with_export<'a>(alloc: Global, command: Command<'a>) -> Result<Command<'a
 
 /// What the arguments of `export` ask for.
 pub fn export_of<'a>(found: &ArgMatches<'a>) -> Option<Task<'a>>
-    ensures { IfSome result
-        (λ task. IsTask task (codes "export") (rows_of (found_of found.now))) }
+    ensures { IfSome result (λ task. IsTask task (codes "export") (rows_of (found_of found.now))) }
 {
     let file = text_at(found, "wcif")?;
     let running = flag_at(found, "running");

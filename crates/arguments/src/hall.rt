@@ -56,8 +56,7 @@ pub fn with_hall<'a>(alloc: Global, command: Command<'a>) -> Result<Command<'a>,
 
 /// What the arguments of `hall` ask for.
 pub fn hall_of<'a>(found: &ArgMatches<'a>) -> Option<Task<'a>>
-    ensures { IfSome result
-        (λ task. IsTask task (codes "hall") (rows_of (found_of found.now))) }
+    ensures { IfSome result (λ task. IsTask task (codes "hall") (rows_of (found_of found.now))) }
 {
     let desks = byte_at(found, "desks")?;
     Some(Task::Hall { desks })

@@ -137,8 +137,7 @@ fn names_at(found: &ArgMatches<'_>) -> SameNames
 
 /// What the arguments of `import` ask for.
 pub fn import_of<'m, 'a: 'm>(found: &'m ArgMatches<'a>) -> Option<Task<'m>>
-    ensures { IfSome result
-        (λ task. IsTask task (codes "import") (rows_of (found_of found.now))) }
+    ensures { IfSome result (λ task. IsTask task (codes "import") (rows_of (found_of found.now))) }
 {
     let file = text_at(found, "wcif")?;
     let options = Options {

@@ -48,8 +48,7 @@ pub fn with_key<'a>(alloc: Global, command: Command<'a>) -> Result<Command<'a>, 
 
 /// What the arguments of `key` ask for.
 pub fn key_of<'a>(found: &ArgMatches<'a>) -> Option<Task<'a>>
-    ensures { IfSome result
-        (λ task. IsTask task (codes "key") (rows_of (found_of found.now))) }
+    ensures { IfSome result (λ task. IsTask task (codes "key") (rows_of (found_of found.now))) }
 {
     let file = given_text(found, "file");
     Some(Task::Key { file })

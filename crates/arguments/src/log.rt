@@ -115,8 +115,7 @@ fn form_at(found: &ArgMatches<'_>) -> Option<LogFormOption>
 
 /// What the arguments of `log` ask for: the log of a desk that runs, or of a stopped one.
 pub fn log_of<'a>(found: &ArgMatches<'a>) -> Option<Task<'a>>
-    ensures { IfSome result
-        (λ task. IsTask task (codes "log") (rows_of (found_of found.now))) }
+    ensures { IfSome result (λ task. IsTask task (codes "log") (rows_of (found_of found.now))) }
 {
     if found.get_str("store").is_none() {
         without(found, "store")?;

@@ -3,8 +3,7 @@
 ghost use Rattle.std.specs.Prelude.{◌≡◌, IfOk};
 ghost use Rattle.clap.specs.Words.{app_of, subcommand_rows_of};
 ghost use Rattle.arguments.specs.Asking.{ImportParsers, Parsers, Parses, RoundParsers};
-ghost use Rattle.arguments.specs.Asking.{desk_arguments};
-ghost use Rattle.arguments.specs.Tables.{first_half};
+ghost use Rattle.arguments.specs.{Asking.desk_arguments, Tables.first_half};
 ghost use Rattle.command_line.specs.Arguments.{argument_texts};
 
 use crate::ask::with_ask;

@@ -45,8 +45,7 @@ pub fn with_results<'a>(alloc: Global, command: Command<'a>) -> Result<Command<'
 
 /// What the arguments of `results` ask for.
 pub fn results_of<'a>(found: &ArgMatches<'a>) -> Option<Task<'a>>
-    ensures { IfSome result
-        (λ task. IsTask task (codes "results") (rows_of (found_of found.now))) }
+    ensures { IfSome result (λ task. IsTask task (codes "results") (rows_of (found_of found.now))) }
 {
     if flag_at(found, "json") {
         Some(Task::Results)

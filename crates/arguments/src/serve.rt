@@ -213,8 +213,7 @@ fn makes_at(found: &ArgMatches<'_>, new_hall: bool) -> bool
 
 /// What the arguments of `serve` ask for: a desk of a hall at addresses, or of a file's hall.
 pub fn serve_of<'m, 'a: 'm>(found: &'m ArgMatches<'a>) -> Option<Task<'m>>
-    ensures { IfSome result
-        (λ task. IsTask task (codes "serve") (rows_of (found_of found.now))) }
+    ensures { IfSome result (λ task. IsTask task (codes "serve") (rows_of (found_of found.now))) }
 {
     let desk = byte_at(found, "desk")?;
     let store = text_at(found, "store")?;

@@ -69,8 +69,7 @@ pub fn sheet_command<'a>(alloc: Global) -> Result<Command<'a>, AllocError>
 
 /// What the arguments of `sheet` ask for: the sheet at a position, or the newest one.
 pub fn sheet_of<'a>(found: &ArgMatches<'a>) -> Option<Task<'a>>
-    ensures { IfSome result
-        (λ task. IsTask task (codes "sheet") (rows_of (found_of found.now))) }
+    ensures { IfSome result (λ task. IsTask task (codes "sheet") (rows_of (found_of found.now))) }
 {
     let (place, patience) = placed(found)?;
     let event = event_at(found)?;

@@ -74,8 +74,7 @@ pub fn with_status<'a>(alloc: Global, command: Command<'a>) -> Result<Command<'a
 
 /// What the arguments of `status` ask for.
 pub fn status_of<'m, 'a: 'm>(found: &'m ArgMatches<'a>) -> Option<Task<'m>>
-    ensures { IfSome result
-        (λ task. IsTask task (codes "status") (rows_of (found_of found.now))) }
+    ensures { IfSome result (λ task. IsTask task (codes "status") (rows_of (found_of found.now))) }
 {
     let desks = desks_at(found)?;
     let patience = number_or(found, "patience", PATIENCE)?;

@@ -205,8 +205,7 @@ pub struct Invocation<'a> {
 
 /// The request of a subcommand's arguments, where the subcommand makes one.
 fn request_of(name: &str, found: &ArgMatches<'_>) -> Option<ClientRequest>
-    ensures { IfSome result
-        (λ request. IsRequest request name.now (rows_of (found_of found.now))) }
+    ensures { IfSome result (λ request. IsRequest request name.now (rows_of (found_of found.now))) }
 {
     match name {
         "ask" => {
@@ -234,8 +233,7 @@ fn carried<'a>(name: &str, found: &ArgMatches<'a>) -> Option<Task<'a>>
 
 /// The task of the arguments of `replay`.
 fn replayed<'a>(found: &ArgMatches<'a>) -> Option<Task<'a>>
-    ensures { IfSome result
-        (λ task. IsTask task (codes "replay") (rows_of (found_of found.now))) }
+    ensures { IfSome result (λ task. IsTask task (codes "replay") (rows_of (found_of found.now))) }
 {
     let task = replay_of(found)?;
     Some(Task::Replay(task))

@@ -1,12 +1,11 @@
 -- Values at the borders, computed from the definition.
 use Rattle.std.proofs.Common.{◌≡◌, refl, codes, None, Some}
 use Rattle.std.specs.Fmt.{digits}
+use Rattle.attempts.specs.{Attempts.value_of, Texts.value_text}
 use Rattle.attempts.specs.declared.Fm.TheVariants as fm
 use Rattle.attempts.specs.declared.Outcome.TheVariants as outcome
 use Rattle.attempts.specs.declared.Unit.TheVariants as measure
 use Rattle.attempts.specs.declared.Value.TheVariants as value
-use Rattle.attempts.specs.Attempts.{value_of}
-use Rattle.attempts.specs.Texts.{value_text}
 
 below_a_half : value_of (Some 120000) (outcome.Time 60049 0) ≡ value.Number 60000
 below_a_half = refl

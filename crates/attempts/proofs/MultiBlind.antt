@@ -2,25 +2,21 @@
 use Rattle.std.proofs.Common.{◌≡◌, ◌↔◌, refl, ap, ◌∙◌, ℕ, ◌+◌, ◌-◌, ◌*◌, ◌/◌, ◌%◌, ◌^◌, ◌<◌, ◌≤◌}
 use Rattle.std.proofs.Common.{Bool, true, false, cond, List, [], ◌∷◌, ◌++◌, map, decimal, codes}
 use Rattle.std.proofs.Common.{All, None, arith, append_assoc}
-use Rattle.std.specs.List.{slice_split, AllByRecursion}
+use Rattle.std.specs.{List.slice_split, List.AllByRecursion, Char.digit_value}
 use Rattle.std.specs.Str.Parse.{digits_value, AllDigits}
-use Rattle.std.specs.Char.{digit_value}
-use Rattle.std.proofs.lemmas.Bool.Decides.{nat_tests}
+use Rattle.std.proofs.lemmas.{Bool.Decides.nat_tests, List.Elements.All-from_recursion}
 use Rattle.std.proofs.lemmas.Fmt.{digits_decimal, digits_value-decimal}
 use Rattle.std.proofs.lemmas.Str.Parse.{IsNumeralModel, numerals_by_value, tells_digits}
-use Rattle.std.proofs.lemmas.Str.Parse.{digit_from_value}
-use Rattle.std.proofs.lemmas.Str.{digit_value_digit}
+use Rattle.std.proofs.lemmas.Str.{Parse.digit_from_value, digit_value_digit}
 use Rattle.std.proofs.lemmas.List.Splits.{slice_split_at, slice_split_none}
-use Rattle.std.proofs.lemmas.List.Elements.{All-from_recursion}
-use Rattle.attempts.specs.declared.Outcome.TheVariants as outcome
-use Rattle.attempts.specs.declared.Unit.TheVariants as measure
-use Rattle.attempts.specs.declared.Value.{Value}
-use Rattle.attempts.specs.declared.Value.TheVariants as value
+use Rattle.attempts.specs.{declared.Value.Value, Texts.seconds_in}
 use Rattle.attempts.specs.Attempts.{is_multi_finished, multi_number}
 use Rattle.attempts.specs.Texts.{two_digits, multi_text, unsolved_in, solved_in, attempted_in}
-use Rattle.attempts.specs.Texts.{seconds_in}
 use Rattle.attempts.specs.MultiLaws.{Multi, points_of, unsolved_of, is_better, is_mark, numbers_in}
 use Rattle.attempts.specs.MultiLaws.{CountsAs, IsOrdered, ReadsBack}
+use Rattle.attempts.specs.declared.Outcome.TheVariants as outcome
+use Rattle.attempts.specs.declared.Unit.TheVariants as measure
+use Rattle.attempts.specs.declared.Value.TheVariants as value
 
 -- The number of a result that counts
 

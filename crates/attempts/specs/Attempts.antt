@@ -3,13 +3,10 @@
 -- are the project's own.
 use Rattle.std.specs.Prelude.{◌≡◌, ℕ, ◌+◌, ◌-◌, ◌*◌, ◌/◌, ◌≤◌, Bool, false, ◌&&◌, nat_le}
 use Rattle.std.specs.Prelude.{if◌then◌else◌, Option, None, Some}
-use Rattle.attempts.specs.declared.Fm.{Fm}
+use Rattle.attempts.specs.declared.{Fm.Fm, Outcome.Outcome, Unit.Unit as Measure, Value.Value}
 use Rattle.attempts.specs.declared.Fm.TheVariants as fm
-use Rattle.attempts.specs.declared.Outcome.{Outcome}
 use Rattle.attempts.specs.declared.Outcome.TheVariants as outcome
-use Rattle.attempts.specs.declared.Unit.{Unit as Measure}
 use Rattle.attempts.specs.declared.Unit.TheVariants as measure
-use Rattle.attempts.specs.declared.Value.{Value}
 use Rattle.attempts.specs.declared.Value.TheVariants as value
 
 -- hundredths up to ten minutes as they are, and longer ones to the nearest second, a half up
@@ -97,7 +94,4 @@ IsInRangeOf unit value.Dns = Unit {0}
 -- results of multi-blind are of its unit alone
 abbrev pub IsOutcomeOf : Measure → Outcome → Type 0
 IsOutcomeOf unit (outcome.Multi solved attempted seconds) = unit ≡ measure.Multi
-IsOutcomeOf unit (outcome.Time time penalties) = Unit {0}
-IsOutcomeOf unit (outcome.Solution result) = Unit {0}
-IsOutcomeOf unit outcome.Dnf = Unit {0}
-IsOutcomeOf unit outcome.Dns = Unit {0}
+IsOutcomeOf unit _ = Unit {0}

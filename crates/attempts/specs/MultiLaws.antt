@@ -2,13 +2,12 @@
 -- (the project's own).
 use Rattle.std.specs.Prelude.{◌≡◌, ◌↔◌, ℕ, ◌/◌, ◌%◌, ◌<◌, Bool, true, ◌==◌, ◌||◌, ◌&&◌, nat_lt}
 use Rattle.std.specs.Prelude.{List, [], ◌∷◌, map, Option}
-use Rattle.std.specs.List.{slice_split}
-use Rattle.std.specs.Str.Parse.{digits_value}
+use Rattle.std.specs.{List.slice_split, Str.Parse.digits_value}
+use Rattle.attempts.specs.Attempts.{points, unsolved, value_of, IsOutcome}
+use Rattle.attempts.specs.Texts.{value_text}
 use Rattle.attempts.specs.declared.Outcome.TheVariants as outcome
 use Rattle.attempts.specs.declared.Unit.TheVariants as measure
 use Rattle.attempts.specs.declared.Value.TheVariants as value
-use Rattle.attempts.specs.Attempts.{points, unsolved, value_of, IsOutcome}
-use Rattle.attempts.specs.Texts.{value_text}
 
 -- this many cubes solved of those attempted, in this many seconds
 pub record Multi : Type 0 where

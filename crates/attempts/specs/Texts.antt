@@ -1,9 +1,8 @@
 -- How values are printed (the project's own).
 use Rattle.std.specs.Prelude.{ℕ, ◌+◌, ◌-◌, ◌*◌, ◌/◌, ◌%◌, nat_lt, if◌then◌else◌, List, [], ◌∷◌}
 use Rattle.std.specs.Prelude.{◌++◌, codes, decimal}
-use Rattle.attempts.specs.declared.Value.{Value}
+use Rattle.attempts.specs.declared.{Value.Value, Unit.Unit as Measure}
 use Rattle.attempts.specs.declared.Value.TheVariants.{Number, Dnf, Dns}
-use Rattle.attempts.specs.declared.Unit.{Unit as Measure}
 use Rattle.attempts.specs.declared.Unit.TheVariants.{Time, Moves, Multi}
 
 -- the last two decimal digits

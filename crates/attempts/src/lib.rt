@@ -9,8 +9,7 @@
 ghost use Rattle.std.specs.Prelude.{◌≡◌, ◌≤◌, ◌↔◌, IsTrue};
 ghost use Rattle.attempts.specs.Attempts.{value_of, rounded, multi_value, IsOutcome, IsInRange};
 ghost use Rattle.attempts.specs.Attempts.{IsInRangeOf, IsOutcomeOf};
-ghost use Rattle.attempts.specs.declared.Unit.{Unit as Measure};
-ghost use Rattle.attempts.specs.declared.Unit.TheVariants.{Multi};
+ghost use Rattle.attempts.specs.declared.Unit.{Unit as Measure, TheVariants.Multi};
 
 mod laws;
 mod print;

@@ -1,27 +1,21 @@
 -- Lines that were entered, or not, and what was asked for that.
-use Rattle.std.proofs.Common.{◌≡◌, ◌⊎◌, inl, inr, ℕ, ◌+◌, ◌^◌, ◌≤◌, Bool, true, false, List}
-use Rattle.std.proofs.Common.{[], ◌∷◌, ◌++◌, Option, Result, Ok, Err, OnOk, IfErr}
-use Rattle.std.proofs.Common.{refl, sym, subst}
+use Rattle.std.proofs.Common.{◌≡◌, ◌⊎◌, inl, inr, ℕ, ◌+◌, ◌^◌, ◌≤◌, Bool, true, false, List, []}
+use Rattle.std.proofs.Common.{◌∷◌, ◌++◌, Option, Result, Ok, Err, OnOk, IfErr, refl, sym, subst}
 use Rattle.client.specs.Printing.{reply_text}
-use Rattle.std.proofs.KnownBytes.{Appends-nil}
-use Rattle.std.specs.Io.KnownBytes.{Appends}
-use Rattle.lines.specs.Bytes.{AppendsPart}
-use Rattle.lines.proofs.Inputs.{whole_written}
+use Rattle.std.{proofs.KnownBytes.Appends-nil, specs.Io.KnownBytes.Appends}
+use Rattle.lines.{specs.Bytes.AppendsPart, proofs.Inputs.whole_written}
 use Rattle.texts.specs.declared.answer.Answer.{Answer}
 use Rattle.wire.specs.declared.frame.FrameBody.{FrameBody}
 use Rattle.batch.specs.Asking.{Asked, Asks, IsAnswer, IsOfAsking, submit_of}
 use Rattle.batch.specs.Dialing.{GoesBy, Grows, Place, Standing, Way}
 use Rattle.batch.specs.Watching.{Begins, Entered, Notice, Telling, Watched, line_notices}
-use Rattle.batch.specs.declared.asking.Receiver.{Receiver}
-use Rattle.batch.specs.declared.fault.BatchFault.TheVariants as fault
-use Rattle.batch.specs.model.Trying.{IsUndecided}
+use Rattle.batch.specs.declared.{asking.Receiver.Receiver, fault.BatchFault.BatchFault}
+use Rattle.batch.specs.{model.Trying.IsUndecided, declared.lines_entered.Batch.Batch}
 use Rattle.batch.specs.Entering.{AsksFront, AsksLines, AsksTo, EnteredBy, EntersLine, FailsLine}
 use Rattle.batch.specs.Entering.{Hinders, IsEntered, IsOfPrinting, IsWhole, StopsAsking}
 use Rattle.batch.specs.Entering.{StopsBehind, TellsLine, ends_run, told_answer}
-use Rattle.batch.specs.declared.fault.BatchFault.{BatchFault}
-use Rattle.batch.specs.declared.lines_entered.Batch.{Batch}
-use Rattle.batch.proofs.Going.{goes_none, grows_more, grows_none}
-use Rattle.batch.proofs.Trying.{between}
+use Rattle.batch.proofs.{Going.goes_none, Going.grows_more, Going.grows_none, Trying.between}
+use Rattle.batch.specs.declared.fault.BatchFault.TheVariants as fault
 
 -- it begins, and so the observer was told
 begun_more : (x y z : Option (List Notice)) (id : ℕ) (line : List ℕ) (told : List Notice)
@@ -30,8 +24,7 @@ begun_more x y z id line told h k = grows_more x y z (Begins id line ∷ []) tol
 
 line_heard : (x y z u : Option (List Notice)) (id : ℕ) (line : List ℕ) (told : List Notice)
     (said answer : Option Answer) → said ≡ answer → Grows x y (Begins id line ∷ [])
-    → Grows y z told → Grows z u (Entered said ∷ [])
-    → Grows x u (line_notices id line told answer)
+    → Grows y z told → Grows z u (Entered said ∷ []) → Grows x u (line_notices id line told answer)
 line_heard x y z u id line told said answer is begins heard ends =
     begun_more x y u id line (told ++ Entered answer ∷ []) begins
     (grows_more y z u told (Entered answer ∷ []) heard
@@ -109,8 +102,7 @@ refused {here} b id n text line last from to x y z u said old new is same answer
       written = whole_written old new text_said written;
       whole = written;
       asked =
-          subst
-          (λ m. Asks here from to
+          subst (λ m. Asks here from to
           (Telling (between x u) (StopsBehind fault.AtRefusal b m line text_said))) is (
             k.0,
             k.1,

@@ -1,15 +1,12 @@
 -- What an answer says of a command that was decided, and of the entry at its position.
 use Rattle.std.proofs.Common.{◌≡◌, ◌∷◌, [], ℕ, List, Result, Ok, refl, subst}
 use Rattle.acceptor.specs.declared.entry.Entry.{Entry}
-use Rattle.wire.specs.declared.frame.Frame.{Frame}
-use Rattle.wire.specs.declared.frame.FrameBody.{FrameBody}
-use Rattle.batch.specs.Asking.{IsAnswer, log_of}
+use Rattle.wire.specs.declared.frame.{Frame.Frame, FrameBody.FrameBody}
+use Rattle.batch.specs.{Asking.IsAnswer, Asking.log_of, Confirming.entry_of}
 use Rattle.batch.specs.Confirming.{Confirms, HasFirst, IsDecidedAt, IsNotOwn, IsUnconfirmed}
-use Rattle.batch.specs.Confirming.{entry_of}
 use Rattle.batch.specs.Dialing.{Asks, Goes, Place, Standing, asked_so}
 use Rattle.batch.specs.Watching.{Notice, Telling, Tells, Watched}
-use Rattle.batch.specs.declared.asking.Receiver.{Receiver}
-use Rattle.batch.specs.declared.fault.BatchFault.{BatchFault}
+use Rattle.batch.specs.declared.{asking.Receiver.Receiver, fault.BatchFault.BatchFault}
 
 -- the entry at the position is this one
 pub confirms : {here : Place} (r : Receiver) (id : ℕ) (text : List ℕ) (told answer : FrameBody)
@@ -44,8 +41,7 @@ confirms {here} r id text told answer pos request entry a b v none is at goes co
 pub unconfirmed : {here : Place} (f : BatchFault) (r : Receiver) (id : ℕ) (text : List ℕ)
     (told : FrameBody) (result : Result FrameBody BatchFault) (pos : ℕ) (request : Frame)
     (a b : Standing) (v : Watched) (heard : List Notice) → Tells v heard
-    → request ≡ log_of r pos → IsDecidedAt pos told
-    → Goes here a b (asked_so request result ∷ [])
+    → request ≡ log_of r pos → IsDecidedAt pos told → Goes here a b (asked_so request result ∷ [])
     → IsNotOwn f r pos (entry_of id text) result heard
     → Asks here a b (Telling v (IsUnconfirmed f r id text told))
 unconfirmed {here} f r id text told result pos request a b v heard found is at goes why = (

@@ -1,22 +1,18 @@
 -- One request over one connection.
 use Rattle.std.proofs.Common.{◌≡◌, ◌⊎◌, ◌<◌, ◌≤◌, ◌+◌, ◌++◌, ◌∷◌, [], inl, inr, ℕ, List, Option}
-use Rattle.std.proofs.Common.{Bool, true, false, if◌then◌else◌, Result, Ok, Err, IfOk}
-use Rattle.std.proofs.Common.{ap, refl, subst, sym, ◌∙◌}
-use Rattle.client.specs.Answers.{judged}
-use Rattle.client.specs.declared.fault.ClientFault.{ClientFault}
+use Rattle.std.proofs.Common.{Bool, true, false, if◌then◌else◌, Result, Ok, Err, IfOk, ap, refl}
+use Rattle.std.proofs.Common.{subst, sym, ◌∙◌}
+use Rattle.client.specs.{Answers.judged, declared.fault.ClientFault.ClientFault}
 use Rattle.wire.specs.Ranges.{IsFrame}
-use Rattle.wire.specs.declared.frame.Frame.{Frame}
-use Rattle.wire.specs.declared.frame.FrameBody.{FrameBody}
-use Rattle.batch.specs.Asking.{IsAnswer}
+use Rattle.wire.specs.declared.frame.{Frame.Frame, FrameBody.FrameBody}
+use Rattle.batch.specs.{Asking.IsAnswer, declared.fault.BatchFault.BatchFault}
 use Rattle.batch.specs.Dialing.{Asked, Came, Dialed, Dials, Ended, Failed, Goes, IsExchanged}
 use Rattle.batch.specs.Dialing.{Opened, Place, Standing, answer_of, asked_so, ended_so, exchanged}
 use Rattle.batch.specs.Dialing.{is_answered, is_hung_up, made_after}
 use Rattle.batch.specs.model.Keeping.{Cuts, Hears, MakesAnew, MakesKept, Uses}
-use Rattle.batch.specs.declared.dialing.ConnectionLoss.{ConnectionLoss}
-use Rattle.batch.specs.declared.dialing.ConnectionLoss.TheVariants.{Own}
-use Rattle.batch.specs.declared.fault.BatchFault.{BatchFault}
-use Rattle.batch.specs.declared.fault.BatchFault.TheVariants as fault
+use Rattle.batch.specs.declared.dialing.ConnectionLoss.{ConnectionLoss, TheVariants.Own}
 use Rattle.batch.proofs.Going.{goes_by, grows_more}
+use Rattle.batch.specs.declared.fault.BatchFault.TheVariants as fault
 
 -- a frame that is judged to be an answer is one to the request
 pub heard_answers : (request given : Frame) (ended : Result FrameBody ClientFault)
@@ -44,8 +40,7 @@ pub uses_kept : (request : Frame) (ended : Result FrameBody ClientFault)
 uses_kept request ended old new is h = record {
   came = h.came;
   told =
-      subst
-      (λ (b : Bool). Dials old new (Came request h.came ∷ (if b then [] else Ended Own ∷ [])))
+      subst (λ (b : Bool). Dials old new (Came request h.came ∷ (if b then [] else Ended Own ∷ [])))
       (sym is) h.told;
   heard = h.heard;
 }
@@ -59,8 +54,7 @@ uses_ended request ended ending old mid new is h k = record {
   told =
       subst
       (λ (b : Bool). Dials old new (Came request h.came ∷ (if b then [] else Ended ending ∷ [])))
-      (sym is)
-      (grows_more old mid new (Came request h.came ∷ []) (Ended ending ∷ []) h.told k);
+      (sym is) (grows_more old mid new (Came request h.came ∷ []) (Ended ending ∷ []) h.told k);
   heard = h.heard;
 }
 
@@ -150,14 +144,12 @@ abbrev pub at : Option (List Dialed) → ℕ → Standing
 at dialed made = record { dialed = dialed; made = made }
 
 pub goes_anew : (here : Place) (made after : ℕ) (a c : Option (List Dialed)) (one : Asked)
-    → made ≡ 0 → MakesAnew here a c one after
-    → Goes here (at a made) (at c after) (one ∷ [])
+    → made ≡ 0 → MakesAnew here a c one after → Goes here (at a made) (at c after) (one ∷ [])
 goes_anew here made after a c one none m =
     goes_by here (at a made) (at c after) one m.0 m.1 (inl (none, m.2))
 
 pub goes_kept : (here : Place) (made after : ℕ) (a c : Option (List Dialed)) (one : Asked)
-    → MakesKept made a c one after
-    → Goes here (at a made) (at c after) (one ∷ [])
+    → MakesKept made a c one after → Goes here (at a made) (at c after) (one ∷ [])
 goes_kept here made after a c one m =
     goes_by here (at a made) (at c after) one m.0 m.1 (inr (inl m.2))
 
@@ -169,8 +161,7 @@ pub goes_again : (here : Place) (made after : ℕ) (a b c : Option (List Dialed)
 goes_again here made after a b c request answer some few cut m =
     let first = exchanged request cut.came cut.ending in
     goes_by here (at a made) (at c after) (asked_so request answer) (first ++ m.0)
-    (grows_more a b c first m.0 cut.told m.1)
-    (inr (inr (inl (record {
+    (grows_more a b c first m.0 cut.told m.1) (inr (inr (inl (record {
       some = some;
       few = few;
       came = cut.came;
@@ -184,12 +175,10 @@ goes_again here made after a b c request answer some few cut m =
 -- the one that was kept was used up: it was ended, and the request was made over a new one
 pub goes_afresh : (here : Place) (made after : ℕ) (ending : ConnectionLoss)
     (a b c : Option (List Dialed)) (one : Asked) → 64 ≤ made → Dials a b (Ended ending ∷ [])
-    → MakesAnew here b c one after
-    → Goes here (at a made) (at c after) (one ∷ [])
+    → MakesAnew here b c one after → Goes here (at a made) (at c after) (one ∷ [])
 goes_afresh here made after ending a b c one full h m =
     goes_by here (at a made) (at c after) one (Ended ending ∷ m.0)
-    (grows_more a b c (Ended ending ∷ []) m.0 h m.1)
-    (inr (inr (inr (record {
+    (grows_more a b c (Ended ending ∷ []) m.0 h m.1) (inr (inr (inr (record {
       full = full;
       ending = ending;
       rest = m.0;

@@ -1,18 +1,14 @@
 -- What is asked for one line.
-use Rattle.std.proofs.Common.{◌≡◌, inl, inr, ◌++◌, [], ℕ, List, Bool, true}
-use Rattle.std.proofs.Common.{Option, Result, Ok, Err, IfOk, IfErr, ◌⊎◌}
-use Rattle.std.proofs.Common.{refl, sym, ap, append-nil, subst, ◌∙◌}
-use Rattle.wire.specs.declared.frame.Frame.{Frame}
-use Rattle.wire.specs.declared.frame.FrameBody.{FrameBody}
+use Rattle.std.proofs.Common.{◌≡◌, inl, inr, ◌++◌, ℕ, List, Bool, true, Option, Result, Ok, Err}
+use Rattle.std.proofs.Common.{IfOk, IfErr, ◌⊎◌, refl, sym, ap, append-nil, subst, ◌∙◌}
+use Rattle.wire.specs.declared.frame.{Frame.Frame, FrameBody.FrameBody}
 use Rattle.batch.specs.Asking.{Asked, Asks, EndsWaiting, IsAnswer, IsAwaited, IsDecided, IsOfAsking}
 use Rattle.batch.specs.Asking.{IsTaken, IsTakenOf, IsTurnedOff, ask_of, submit_of}
 use Rattle.batch.specs.Confirming.{Confirms, IsAnother, IsUnconfirmed}
 use Rattle.batch.specs.Dialing.{Dialed, Grows, LetsGo, Place, Standing, closed}
 use Rattle.batch.specs.Entering.{EnteredBy, Hinders, IsEntered, StopsAsking, StopsTaking}
-use Rattle.batch.specs.Logs.{AddsSo}
-use Rattle.batch.specs.Watching.{Notice, Telling, Watched}
-use Rattle.batch.specs.declared.asking.Receiver.{Receiver}
-use Rattle.batch.specs.declared.fault.BatchFault.{BatchFault}
+use Rattle.batch.specs.{Logs.AddsSo, Watching.Notice, Watching.Telling, Watching.Watched}
+use Rattle.batch.specs.declared.{asking.Receiver.Receiver, fault.BatchFault.BatchFault}
 use Rattle.batch.proofs.Going.{adds_by, goes_more, grows_more}
 use Rattle.batch.proofs.Trying.{between, telling_as}
 
@@ -35,8 +31,7 @@ pub if_takes_text : (here : Place) (r : Receiver) (id : ℕ) (text : List ℕ) (
     → IfOk result (λ answer. Asks here a b (Telling v (IsTakenOf r submit answer)))
     → IfOk result (λ answer. Asks here a b (Telling v (IsTaken r id text answer)))
 if_takes_text here r id text submit a b v result is h =
-    subst
-    (λ (s : Frame). IfOk result (λ answer. Asks here a b (Telling v (IsTakenOf r s answer))))
+    subst (λ (s : Frame). IfOk result (λ answer. Asks here a b (Telling v (IsTakenOf r s answer))))
     is h
 
 -- the text was not taken

@@ -1,26 +1,20 @@
 -- Lines that were entered one after the other.
-use Rattle.std.proofs.Common.{◌≡◌, ℕ, ◌+◌, ◌<◌, false, List, [], ◌∷◌, ◌++◌, length}
-use Rattle.std.proofs.Common.{Option, refl, sym, ap, ◌∙◌, append_assoc, append-nil, subst, arith}
-use Rattle.std.proofs.Common.{take, drop, get_or, suc}
+use Rattle.std.proofs.Common.{◌≡◌, ℕ, ◌+◌, ◌<◌, false, List, [], ◌∷◌, ◌++◌, length, Option, refl}
+use Rattle.std.proofs.Common.{sym, ap, ◌∙◌, append_assoc, append-nil, subst, arith, take, drop, suc}
+use Rattle.std.{proofs.Common.get_or, proofs.Math.Seq.split_at, specs.Io.KnownBytes.Appends}
 use Rattle.std.proofs.lemmas.List.{length-map, length-take-le, map-append, take_more}
-use Rattle.std.proofs.Math.Seq.{split_at, take-length}
-use Rattle.std.proofs.KnownBytes.{Appends-trans, Appends-nil}
-use Rattle.std.specs.Io.KnownBytes.{Appends}
+use Rattle.std.proofs.{Math.Seq.take-length, KnownBytes.Appends-trans, KnownBytes.Appends-nil}
 use Rattle.client.specs.Printing.{reply_text}
-use Rattle.lines.specs.command_file.Commands.{Numbered}
-use Rattle.lines.proofs.Inputs.{part_after}
+use Rattle.lines.{specs.command_file.Commands.Numbered, proofs.Inputs.part_after}
 use Rattle.wire.specs.declared.frame.FrameBody.{FrameBody}
-use Rattle.batch.specs.Asking.{Asked, Goes}
+use Rattle.batch.specs.{Asking.Asked, Asking.Goes, Watching.Notice, Watching.line_notices}
 use Rattle.batch.specs.Dialing.{Grows, Place, Standing}
 use Rattle.batch.specs.Entering.{AsksFront, AsksLines, EnteredBy, EntersLine, FailsLine, IsEntered}
 use Rattle.batch.specs.Entering.{IsWhole, SaidBy, StopsBehind, ends_run, texts_of, told_answer}
-use Rattle.batch.specs.Watching.{Notice, line_notices}
-use Rattle.batch.specs.declared.fault.BatchFault.{BatchFault}
-use Rattle.batch.specs.declared.fault.BatchFault.TheVariants as fault
-use Rattle.batch.specs.declared.lines_entered.Batch.{Batch}
-use Rattle.batch.proofs.Asked.{way}
+use Rattle.batch.specs.declared.{fault.BatchFault.BatchFault, lines_entered.Batch.Batch}
+use Rattle.batch.proofs.{Asked.way, Trying.between}
 use Rattle.batch.proofs.Going.{goes_more, goes_none, grows_more, grows_none}
-use Rattle.batch.proofs.Trying.{between}
+use Rattle.batch.specs.declared.fault.BatchFault.TheVariants as fault
 
 -- these lines were entered by these requests, what is said of them is written, and this is told
 pub record Entered (here : Place) (b : Batch) (lines : List (List ℕ)) (said : List ℕ)
@@ -41,11 +35,9 @@ none_entered here b old x a = record {
 }
 
 said_more : (b : Batch) (id : ℕ) (lines : List (List ℕ)) (line said : List ℕ) (last : FrameBody)
-    (asked one : List Asked) (notices heard : List Notice)
-    → SaidBy b id lines said asked notices
+    (asked one : List Asked) (notices heard : List Notice) → SaidBy b id lines said asked notices
     → IsEntered b.waits b.receiver (id + length lines) line last
-    → EnteredBy b.waits b.receiver (id + length lines) line last one heard
-    → ends_run b last ≡ false
+    → EnteredBy b.waits b.receiver (id + length lines) line last one heard → ends_run b last ≡ false
     → SaidBy b id (lines ++ line ∷ []) (said ++ reply_text last) (asked ++ one)
     (notices ++ line_notices (id + length lines) line heard (told_answer last))
 said_more b id [] line said last asked one notices heard h entered next on =
@@ -95,8 +87,7 @@ one_more : {here : Place} (b : Batch) (lines : List (List ℕ)) (n : ℕ) (line 
     (asked : List Asked) (notices : List Notice) (old new new' : Option (List ℕ))
     (x y z : Option (List Notice)) (from mid to : Standing)
     → Entered here b lines said asked notices old new x y from mid → n ≡ length lines
-    → (e : EntersLine b n line (way here mid to) (between y z) new
-    new')
+    → (e : EntersLine b n line (way here mid to) (between y z) new new')
     → Entered here b (lines ++ line ∷ []) (said ++ reply_text e.last) (asked ++ e.asked.0)
     (notices ++ line_notices (b.first_id + n) line e.asked.2.1.0 (told_answer e.last)) old new' x z
     from to
@@ -108,16 +99,13 @@ one_more {here} b lines n line said asked notices old new new' x y z from mid to
       told = goes_more here from mid to asked e.asked.0 h.told e.asked.1;
       heard = grows_more x y z notices told h.heard (subst (Grows y z) e.asked.2.1.2 e.asked.2.2);
       each =
-          subst
-          (λ k. SaidBy b b.first_id (lines ++ line ∷ []) (said ++ reply_text e.last)
+          subst (λ k. SaidBy b b.first_id (lines ++ line ∷ []) (said ++ reply_text e.last)
           (asked ++ e.asked.0)
-          (notices ++ line_notices (b.first_id + k) line heard (told_answer e.last)))
-          (sym count)
+          (notices ++ line_notices (b.first_id + k) line heard (told_answer e.last))) (sym count)
           (said_more b b.first_id lines line said e.last asked e.asked.0 notices heard h.each
           (subst (λ k. IsEntered b.waits b.receiver (b.first_id + k) line e.last) count e.entered)
           (subst (λ k. EnteredBy b.waits b.receiver (b.first_id + k) line e.last e.asked.0 heard)
-          count e.asked.2.1.1)
-          e.goes_on);
+          count e.asked.2.1.1) e.goes_on);
     }
 
 -- ---- the texts of commands
@@ -132,8 +120,7 @@ texts_more commands i d within =
 texts_count : (commands : List Numbered) (i : ℕ) → i < length commands
     → i ≡ length (texts_of (take i commands))
 texts_count commands i within =
-    sym
-    (length-map (take i commands) (λ (c : Numbered). c.text)
+    sym (length-map (take i commands) (λ (c : Numbered). c.text)
     ∙ length-take-le i commands (omega (arith, within)))
 
 texts_parted : (commands : List Numbered) (i : ℕ) (d : Numbered) → i < length commands

@@ -1,20 +1,15 @@
 -- A request for how a desk is, and one for a sheet after it.
-use Rattle.std.proofs.Common.{◌≡◌, ◌∷◌, [], true, false, ap, inr, refl, subst, Result, Ok}
-use Rattle.std.proofs.Common.{Err, IfErr, IfOk, None, Some, ◌==◌, ◌∙◌}
+use Rattle.std.proofs.Common.{◌≡◌, ◌∷◌, [], true, false, ap, inr, refl, subst, Result, Ok, Err}
+use Rattle.std.proofs.Common.{IfErr, IfOk, None, Some, ◌==◌, ◌∙◌}
 use Rattle.client.specs.Answers.{answers, fits, is_standing}
-use Rattle.wire.specs.declared.frame.Frame.{Frame}
-use Rattle.wire.specs.declared.frame.FrameBody.{FrameBody}
-use Rattle.wire.specs.declared.frame.FrameBody.TheVariants as what
-use Rattle.wire.specs.declared.standing.DeskStatus as stood
-use Rattle.batch.specs.Asking.{IsAnswer}
+use Rattle.wire.specs.declared.frame.{Frame.Frame, FrameBody.FrameBody}
+use Rattle.batch.specs.{Asking.IsAnswer, Newest.standing_said, declared.fault.BatchFault.BatchFault}
 use Rattle.batch.specs.Dialing.{Asks, Goes, Place, Standing, asked_so}
 use Rattle.batch.specs.Newest.{FailsNewest, GivesNewest, said, sheet_at, standing_asked}
-use Rattle.batch.specs.Newest.{standing_said}
-use Rattle.batch.specs.declared.asking.Receiver.{Receiver}
-use Rattle.batch.specs.declared.fault.BatchFault.{BatchFault}
-use Rattle.batch.specs.declared.newest_asked.RoundSheet.{RoundSheet}
-use Rattle.batch.proofs.Going.{goes_more}
-use Rattle.batch.proofs.Parts.{judged_is, last_of}
+use Rattle.batch.specs.declared.{asking.Receiver.Receiver, newest_asked.RoundSheet.RoundSheet}
+use Rattle.batch.proofs.{Going.goes_more, Parts.judged_is, Parts.last_of}
+use Rattle.wire.specs.declared.frame.FrameBody.TheVariants as what
+use Rattle.wire.specs.declared.standing.DeskStatus as stood
 
 is_so : (w : FrameBody) → is_standing w ≡ true → (s : stood.DeskStatus) × (w ≡ what.Standing s)
 is_so (what.Standing s) h = (s, refl)

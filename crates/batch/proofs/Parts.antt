@@ -1,24 +1,17 @@
 -- A log that comes part after part.
-use Rattle.std.proofs.Common.{◌≡◌, ◌⊎◌, ◌+◌, ◌<◌, ◌≤◌, ◌++◌, ◌∷◌, [], ℕ, List, Bool, true, false}
-use Rattle.std.proofs.Common.{ap, append_assoc, append-nil, arith, inl, inr, length, refl, subst}
-use Rattle.std.proofs.Common.{sym, ◌∙◌, ◌&&◌, Result, Ok, Err, eqb-true, length-append}
-use Rattle.std.specs.Prelude.{◌==◌}
+use Rattle.std.proofs.Common.{◌≡◌, ◌+◌, ◌<◌, ◌≤◌, ◌++◌, ◌∷◌, [], ℕ, List, Bool, true, false, ap}
+use Rattle.std.proofs.Common.{append_assoc, append-nil, arith, inl, inr, length, refl, subst, sym}
+use Rattle.std.proofs.Common.{◌∙◌, ◌&&◌, Result, Ok, Err, length-append}
 use Rattle.acceptor.specs.declared.entry.Entry.{Entry}
-use Rattle.client.specs.Answers.{answers, fits, judged_what}
-use Rattle.client.specs.declared.fault.ClientFault.{ClientFault}
-use Rattle.client.specs.declared.fault.ClientFault.TheVariants as client
-use Rattle.wire.specs.Ranges.{AreOfLog, IsBody}
-use Rattle.wire.specs.declared.frame.FrameBody.{FrameBody}
-use Rattle.wire.specs.declared.frame.FrameBody.TheVariants as what
-use Rattle.batch.specs.Asking.{IsAnswer}
-use Rattle.wire.specs.declared.frame.Frame.{Frame}
+use Rattle.client.specs.{Answers.judged_what, declared.fault.ClientFault.ClientFault}
+use Rattle.wire.specs.declared.frame.{FrameBody.FrameBody, Frame.Frame}
+use Rattle.batch.specs.{Asking.IsAnswer, Logs.log_of, model.Parts.AddsPart, model.Parts.FailsPart}
 use Rattle.batch.specs.Dialing.{Asked, Asks, GoesBy, Place, Standing, Way, asked_so}
-use Rattle.batch.specs.Logs.{AreFurther, FailsLog, HaveCome, IsNoPart, IsPart, IsPartBy}
-use Rattle.batch.specs.Logs.{TellsLog, log_of}
-use Rattle.batch.specs.model.Parts.{AddsPart, FailsPart}
-use Rattle.batch.specs.declared.asking.Receiver.{Receiver}
-use Rattle.batch.specs.declared.fault.BatchFault.{BatchFault}
+use Rattle.batch.specs.Logs.{AreFurther, FailsLog, HaveCome, IsNoPart, IsPart, IsPartBy, TellsLog}
+use Rattle.batch.specs.declared.{asking.Receiver.Receiver, fault.BatchFault.BatchFault}
 use Rattle.batch.proofs.Going.{goes_more}
+use Rattle.client.specs.declared.fault.ClientFault.TheVariants as client
+use Rattle.wire.specs.declared.frame.FrameBody.TheVariants as what
 
 -- entries have come, by one request at least
 pub record IsGoing (r : Receiver) (log : List Entry) (told : ℕ) (asked : List Asked) : Type 0 where
@@ -46,27 +39,6 @@ pub last_of : (a b c : Bool) → (a && b && c) ≡ true → c ≡ true
 last_of true true c h = h
 last_of true false c h = absurd (let k : false ≡ true = h in cc)
 last_of false b c h = absurd (let k : false ≡ true = h in cc)
-
-pub of_log : (r : Receiver) (position from len : ℕ) (entries : List Entry)
-    → IsAnswer (log_of r position) (what.Entries from len entries)
-    → (from ≡ position) × AreOfLog from len entries
-of_log r position from len entries h =
-    let given = h.0 in
-    let is = judged_is given.what (what.Entries from len entries)
-    (answers (log_of r position) given) h.2 in
-    let fitting : fits (what.Log position) given.what ≡ true =
-    last_of (given.hall == r.hall) (given.from == r.desk) (fits (what.Log position) given.what)
-    is.1 in
-    let same : (from == position) ≡ true =
-    subst (λ w. fits (what.Log position) w ≡ true) is.0 fitting in
-    let body : IsBody given.version (what.Entries from len entries) =
-    subst (λ w. IsBody given.version w) is.0 h.1.body in
-    (eqb-true from position same, body.1)
-
-ends_within : (position told len : ℕ) (entries : List Entry) → position ≤ told → told ≤ len
-    → (length entries ≡ 0) ⊎ (position + length entries ≤ len) → position + length entries ≤ len
-ends_within position told len entries behind grows (inl none) = omega (arith, none, behind, grows)
-ends_within position told len entries behind grows (inr h) = h
 
 -- ---- one part after the other
 
@@ -233,8 +205,7 @@ stops_more p a b c r log told f i more h =
 pub adds_part : (w : Way) (r : Receiver) (before after entries : List Entry)
     (told len position : ℕ) (answer : FrameBody) (request : Frame) → position ≡ length before
     → request ≡ log_of r position → GoesBy w (asked_so request (Ok answer) ∷ [])
-    → IsAnswer request answer
-    → (IsAnswer (log_of r position) answer
+    → IsAnswer request answer → (IsAnswer (log_of r position) answer
     → IsPart position told len entries answer × (len ≤ 65536))
     → after ≡ before ++ entries → AddsPart w r before told after len
 adds_part w r before after entries told len position answer request here is goes comes part

@@ -1,26 +1,21 @@
 -- Requests that are made again and again, and what an observer is told of them.
-use Rattle.std.proofs.Common.{◌≡◌, inl, inr, ◌++◌, ◌∷◌, [], ℕ, List, Option, Bool, true, false}
-use Rattle.std.proofs.Common.{Result, Ok, Err, IfErr, IfOk, ◌+◌, ◌<◌, length}
-use Rattle.std.proofs.Common.{refl, sym, subst, arith}
-use Rattle.std.specs.Prelude.{IsOkAnd}
-use Rattle.std.specs.List.{AllByRecursion}
+use Rattle.std.proofs.Common.{◌≡◌, inl, inr, ◌∷◌, [], ℕ, true, Ok, Err, IfOk, ◌+◌, ◌<◌, refl, sym}
+use Rattle.std.proofs.Common.{◌++◌, List, Option, Bool, false, Result, IfErr, length, subst, arith}
+use Rattle.std.specs.{Prelude.IsOkAnd, List.AllByRecursion}
 use Rattle.std.proofs.lemmas.List.FromFn.{map-range_with_len_more}
-use Rattle.wire.specs.declared.frame.Frame.{Frame}
-use Rattle.wire.specs.declared.frame.FrameBody.{FrameBody}
+use Rattle.wire.specs.declared.frame.{Frame.Frame, FrameBody.FrameBody}
 use Rattle.client.specs.declared.fault.ClientFault.TheVariants.{Refused}
 use Rattle.wire.specs.declared.values.ClientRefusal.TheVariants.{Busy}
-use Rattle.batch.specs.Asking.{AreTries, Asked, Asks, Counts, EndsTries, EndsWaiting, Goes}
+use Rattle.batch.specs.Asking.{AreTries, Asked, Asks, Counts, EndsTries, EndsWaiting, Goes, tick_of}
 use Rattle.batch.specs.Asking.{IsAnswer, IsAwaited, IsDecided, IsFull, IsPending, IsTakenOf}
 use Rattle.batch.specs.Asking.{IsTicked, IsTurnedOff, IsUnknown, IsWaiting, TickFails, ask_of}
-use Rattle.batch.specs.Asking.{most_asked, tick_of, ticks_in}
+use Rattle.batch.specs.{Asking.most_asked, Asking.ticks_in, declared.asking.Receiver.Receiver}
 use Rattle.batch.specs.Dialing.{Grows, Place, Standing, asked_so}
 use Rattle.batch.specs.Watching.{Notice, Telling, Tells, Waits, Watched, waits_of}
-use Rattle.batch.specs.declared.asking.Receiver.{Receiver}
-use Rattle.batch.specs.declared.fault.BatchFault.{BatchFault}
-use Rattle.batch.specs.declared.fault.BatchFault.TheVariants.{Asking}
-use Rattle.batch.specs.declared.fault.BatchFault.TheVariants as fault
+use Rattle.batch.specs.declared.fault.BatchFault.{BatchFault, TheVariants.Asking}
 use Rattle.batch.specs.model.Trying.{AreTicks, IsUndecided}
 use Rattle.batch.proofs.Going.{goes_more, goes_none, grows_more}
+use Rattle.batch.specs.declared.fault.BatchFault.TheVariants as fault
 
 -- what holds of its fault holds of a result that is one
 pub fails_by : {T E : Type 0} (P : E → Type 0) (r : Result T E) (e : E) → r ≡ Err e → P e
@@ -28,8 +23,7 @@ pub fails_by : {T E : Type 0} (P : E → Type 0) (r : Result T E) (e : E) → r 
 fails_by P r e is p = subst (λ x. IfErr x P) (sym is) p
 
 pub told_of : {here : Place} (a b : Standing) (x y : Frame) (r : Result FrameBody BatchFault)
-    → x ≡ y
-    → Goes here a b (asked_so x r ∷ []) → Goes here a b (asked_so y r ∷ [])
+    → x ≡ y → Goes here a b (asked_so x r ∷ []) → Goes here a b (asked_so y r ∷ [])
 told_of {here} a b x y r = subst (λ z. Goes here a b (asked_so z r ∷ []))
 
 -- what an observer was told before a call and after it
@@ -73,8 +67,7 @@ one_of P Q m n (x ∷ xs) (inl h) some = (x, h.0)
 one_of P Q m n (x ∷ xs) (inr h) some = one_of P Q m h.1 xs h.3 some
 
 -- one more try
-one_counted : {here : Place} (P Q : Asked → Type 0) (m n : ℕ) (a b c : Standing)
-    (one : Asked)
+one_counted : {here : Place} (P Q : Asked → Type 0) (m n : ℕ) (a b c : Standing) (one : Asked)
     → Asks here a b (Counts P Q m n) → Goes here b c (one ∷ []) → P one → Asks here a c
     (Counts P Q (m + 1) n)
 one_counted P Q m n a b c one h add is =
@@ -252,8 +245,7 @@ tick_waits_told r id tries a b c d v one f h add is tick heard =
 -- it was asked as often as that is done
 pub waits_on_told : {here : Place} (r : Receiver) (id tries : ℕ) (a b : Standing) (v : Watched)
     → tries ≡ most_asked r.awaits
-    → Asks here a b (AreTries (IsWaiting (ask_of r id)) r r.awaits tries)
-    → Tells v (waits_of tries)
+    → Asks here a b (AreTries (IsWaiting (ask_of r id)) r r.awaits tries) → Tells v (waits_of tries)
     → Asks here a b (Telling v (EndsWaiting fault.StillPending r id))
 waits_on_told r id tries a b v all h heard = (
   h.0,

@@ -1,24 +1,19 @@
 -- Requests to a desk, and what came of each (the project's own).
 use Rattle.std.specs.Prelude.{◌≡◌, ◌⊎◌, ◌+◌, ◌/◌, ◌++◌, ◌∷◌, [], ℕ, List, Result, Ok, Err, IsOk}
 use Rattle.std.specs.Prelude.{IsOkAnd, Bool, true, false, if◌then◌else◌}
-use Rattle.client.specs.Answers.{judged}
+use Rattle.client.specs.{Answers.judged, declared.fault.ClientFault.TheVariants.Refused}
 use Rattle.client.specs.Standings.{await_request, log_request}
-use Rattle.client.specs.declared.fault.ClientFault.TheVariants.{Refused}
 use Rattle.wire.specs.Ranges.{IsFrame}
-use Rattle.wire.specs.declared.frame.Frame.{Frame}
-use Rattle.wire.specs.declared.frame.FrameBody.{FrameBody}
-use Rattle.wire.specs.declared.frame.FrameBody.TheVariants as what
-use Rattle.wire.specs.declared.values.ClientRefusal.TheVariants.{Busy}
+use Rattle.wire.specs.declared.frame.{Frame.Frame, FrameBody.FrameBody}
+use Rattle.wire.specs.declared.values.{ClientRefusal.TheVariants.Busy, Version.Version}
 use Rattle.wire.specs.declared.values.CommandState.TheVariants.{Done, Unknown}
-use Rattle.wire.specs.declared.values.Version.{Version}
 use Rattle.wire.specs.declared.values.Version.TheVariants.{One, Four, Five}
-pub use Rattle.batch.specs.Dialing.{Adds, Asked, Asks, Goes, Told, asked_so, told}
-use Rattle.batch.specs.Watching.{Notice, waits_of}
-use Rattle.batch.specs.declared.asking.Receiver.{Receiver}
-use Rattle.batch.specs.declared.fault.BatchFault.{BatchFault}
+use Rattle.batch.specs.{Watching.Notice, Watching.waits_of, declared.asking.Receiver.Receiver}
+use Rattle.batch.specs.declared.fault.BatchFault.{BatchFault, TheVariants.Lost}
 use Rattle.batch.specs.declared.fault.BatchFault.TheVariants.{Asking, CannotConnect, Late, NoMemory}
-use Rattle.batch.specs.declared.fault.BatchFault.TheVariants.{NoKey, OtherKey, HasKey}
-use Rattle.batch.specs.declared.fault.BatchFault.TheVariants.{StillPending, Lost}
+use Rattle.batch.specs.declared.fault.BatchFault.TheVariants.{NoKey, OtherKey, HasKey, StillPending}
+use Rattle.wire.specs.declared.frame.FrameBody.TheVariants as what
+pub use Rattle.batch.specs.Dialing.{Adds, Asked, Asks, Goes, Told, asked_so, told}
 
 -- what became of a command is asked in version 4, which tells each code; one is entered in version
 -- 5 where the desk knows it, which tells each refusal; the others are of version 1
@@ -155,8 +150,7 @@ IsTaken r id text = IsTakenOf r (submit_of r id text)
 abbrev pub IsTurnedOff : BatchFault → Receiver → Frame → List Asked → List Notice → Type 0
 IsTurnedOff f r submit asked told =
     ((tries : ℕ) × EndsTries (IsFull submit) r false submit (Err f) tries asked told
-    × (f ≡ Asking (Refused Busy) → tries ≡ 10000))
-    ⊎ TickFails (IsFull submit) r false f asked told
+    × (f ≡ Asking (Refused Busy) → tries ≡ 10000)) ⊎ TickFails (IsFull submit) r false f asked told
 
 -- it was asked for the id until this was answered
 abbrev pub IsAskedFor : Receiver → ℕ → Result FrameBody BatchFault → List Asked → List Notice

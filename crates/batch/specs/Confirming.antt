@@ -3,14 +3,11 @@
 use Rattle.std.specs.Prelude.{◌≡◌, ◌≢◌, ◌⊎◌, ◌∷◌, [], ℕ, List, Result, Ok, Err}
 use Rattle.acceptor.specs.declared.entry.Entry.{Entry}
 use Rattle.client.specs.declared.fault.ClientFault.TheVariants.{NoAnswer}
-use Rattle.wire.specs.declared.frame.FrameBody.{FrameBody}
-use Rattle.wire.specs.declared.frame.FrameBody.TheVariants as what
-use Rattle.wire.specs.declared.values.CommandState.TheVariants.{Done}
-use Rattle.batch.specs.Asking.{IsAnswer, log_of}
-use Rattle.batch.specs.Dialing.{Asked, asked_so}
+use Rattle.wire.specs.declared.{frame.FrameBody.FrameBody, values.CommandState.TheVariants.Done}
+use Rattle.batch.specs.{Asking.IsAnswer, Asking.log_of, Dialing.Asked, Dialing.asked_so}
 use Rattle.batch.specs.Watching.{Another, Notice}
-use Rattle.batch.specs.declared.asking.Receiver.{Receiver}
-use Rattle.batch.specs.declared.fault.BatchFault.{BatchFault}
+use Rattle.batch.specs.declared.{asking.Receiver.Receiver, fault.BatchFault.BatchFault}
+use Rattle.wire.specs.declared.frame.FrameBody.TheVariants as what
 use Rattle.batch.specs.declared.fault.BatchFault.TheVariants as fault
 
 -- a text with its id, as an entry
@@ -34,8 +31,7 @@ IsEntryAt r pos entry answer = IsAnswer (log_of r pos) answer × HasFirst answer
 -- the desk was asked for its log at the position at which it has reported the command to be, and
 -- the entry there is this id and this text
 pub record IsConfirmed (r : Receiver) (id : ℕ) (text : List ℕ) (told : FrameBody)
-    (asked : List Asked)
-    : Type 0 where
+    (asked : List Asked) : Type 0 where
   pub pos : ℕ
   pub answer : FrameBody
   pub stands : IsDecidedAt pos told
@@ -48,8 +44,7 @@ abbrev pub IsNotOwn : BatchFault → Receiver → ℕ → Entry → Result Frame
     → List Notice → Type 0
 IsNotOwn f r pos own (Err e) heard = (f ≡ e) × (heard ≡ [])
 IsNotOwn f r pos own (Ok answer) heard =
-    ((f ≡ fault.AnotherCommand)
-    × (entry : Entry) × IsEntryAt r pos entry answer × (entry ≢ own)
+    ((f ≡ fault.AnotherCommand) × (entry : Entry) × IsEntryAt r pos entry answer × (entry ≢ own)
     × (heard ≡ Another entry ∷ []))
     ⊎ ((f ≡ fault.Asking NoAnswer) × ((entry : Entry) → ¬ HasFirst answer entry) × (heard ≡ []))
 

@@ -2,17 +2,13 @@
 -- (the project's own).
 use Rattle.std.specs.Prelude.{◌≡◌, ◌⊎◌, ◌++◌, ◌+◌, ◌<◌, ◌≤◌, ◌∷◌, [], ℕ, Bool, true, false}
 use Rattle.std.specs.Prelude.{if◌then◌else◌, List, Option, None, Some, Result, Ok, Err, ⊤}
-use Rattle.client.specs.Answers.{judged}
-use Rattle.client.specs.declared.fault.ClientFault.{ClientFault}
-use Rattle.client.specs.declared.fault.ClientFault.TheVariants as client
-use Rattle.wire.specs.declared.frame.Frame.{Frame}
-use Rattle.wire.specs.declared.frame.FrameBody.{FrameBody}
-use Rattle.batch.specs.declared.dialing.Contact.{Contact}
-use Rattle.batch.specs.declared.dialing.ConnectionLoss.{ConnectionLoss}
+use Rattle.client.specs.{Answers.judged, declared.fault.ClientFault.ClientFault}
+use Rattle.wire.specs.declared.frame.{Frame.Frame, FrameBody.FrameBody}
+use Rattle.batch.specs.declared.dialing.{Contact.Contact, ConnectionLoss.ConnectionLoss}
 use Rattle.batch.specs.declared.dialing.ConnectionLoss.TheVariants.{Late, Gone, NoKey, OtherKey}
-use Rattle.batch.specs.declared.dialing.ConnectionLoss.TheVariants.{HasKey}
-use Rattle.batch.specs.declared.dialing.ConnectionLoss.TheVariants.{Own}
+use Rattle.batch.specs.declared.dialing.ConnectionLoss.TheVariants.{HasKey, Own}
 use Rattle.batch.specs.declared.fault.BatchFault.{BatchFault}
+use Rattle.client.specs.declared.fault.ClientFault.TheVariants as client
 use Rattle.batch.specs.declared.fault.BatchFault.TheVariants as fault
 
 -- the address at which a desk is asked, for how many seconds it is waited, and under which key
@@ -163,8 +159,7 @@ pub record IsRenewed (p : Place) (made : ℕ) (a : Asked) (after : ℕ)
 -- connection was cut off at it, it was made once more.
 abbrev pub IsMade : Place → ℕ → Asked → ℕ → List Dialed → Type 0
 IsMade p made a after dialed =
-    ((made ≡ 0) × IsAnew p a after dialed)
-    ⊎ (IsOverKept made a after dialed
+    ((made ≡ 0) × IsAnew p a after dialed) ⊎ (IsOverKept made a after dialed
     ⊎ (IsRepeated p made a after dialed ⊎ IsRenewed p made a after dialed))
 
 -- ---- requests one after the other

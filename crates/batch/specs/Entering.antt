@@ -1,26 +1,22 @@
 -- What entering lines sends and prints (the project's own).
-use Rattle.std.specs.Prelude.{◌≡◌, ◌⊎◌, ◌+◌, ◌^◌, ◌≤◌, ◌++◌, ◌∷◌, [], ℕ, Bool, true, false}
-use Rattle.std.specs.Prelude.{◌&&◌, List, length, map, Option, Some, None, Result, Ok, Err}
+use Rattle.std.specs.Prelude.{◌≡◌, ◌⊎◌, ◌+◌, ◌^◌, ◌≤◌, ◌++◌, ◌∷◌, [], ℕ, Bool, true, false, ◌&&◌}
+use Rattle.std.specs.Prelude.{List, length, map, Option, Some, None, Result, Ok, Err}
 use Rattle.std.specs.Io.KnownBytes.{Appends}
 use Rattle.acceptor.specs.Entries.{IsId, IsText}
 use Rattle.client.specs.Printing.{reply_text}
-use Rattle.lines.specs.command_file.Commands.{Numbered}
-use Rattle.lines.specs.Bytes.{AppendsPart}
+use Rattle.lines.specs.{command_file.Commands.Numbered, Bytes.AppendsPart}
 use Rattle.texts.specs.declared.answer.Answer.{Answer}
-use Rattle.texts.specs.declared.answer.Answer.TheVariants as said
-use Rattle.wire.specs.declared.frame.FrameBody.{FrameBody}
-use Rattle.wire.specs.declared.frame.FrameBody.TheVariants as what
-use Rattle.wire.specs.declared.values.CommandState.TheVariants.{Done}
+use Rattle.wire.specs.declared.{frame.FrameBody.FrameBody, values.CommandState.TheVariants.Done}
 use Rattle.batch.specs.Asking.{Adds, Asked, EndsWaiting, IsAnswer, IsAwaited, IsDecided, IsOfAsking}
 use Rattle.batch.specs.Asking.{IsPending, IsTaken, IsTurnedOff, IsUnknown, Told, ask_of, submit_of}
 use Rattle.batch.specs.Confirming.{IsAnother, IsConfirmed, IsDecidedAt, IsEntryAt, IsUnconfirmed}
-use Rattle.batch.specs.Confirming.{entry_of}
+use Rattle.batch.specs.{Confirming.entry_of, declared.lines_entered.Batch.Batch}
 use Rattle.batch.specs.Dialing.{AsksBy, GoesBy, Way}
 use Rattle.batch.specs.Watching.{Begins, Notice, Telling, Tells, Watched, line_notices}
-use Rattle.batch.specs.declared.asking.Receiver.{Receiver}
-use Rattle.batch.specs.declared.fault.BatchFault.{BatchFault}
+use Rattle.batch.specs.declared.{asking.Receiver.Receiver, fault.BatchFault.BatchFault}
+use Rattle.texts.specs.declared.answer.Answer.TheVariants as said
+use Rattle.wire.specs.declared.frame.FrameBody.TheVariants as what
 use Rattle.batch.specs.declared.fault.BatchFault.TheVariants as fault
-use Rattle.batch.specs.declared.lines_entered.Batch.{Batch}
 
 -- the texts of commands
 abbrev pub texts_of : List Numbered → List (List ℕ)
@@ -101,8 +97,7 @@ abbrev pub EnteredBy : Bool → Receiver → ℕ → List ℕ → FrameBody → 
 EnteredBy true r id text last asked told =
     (taken : FrameBody) × (first rest log : List Asked) × (early late : List Notice)
     × IsTaken r id text taken first early × IsAwaited r id last rest late
-    × IsConfirmed r id text last log
-    × (asked ≡ (first ++ rest) ++ log) × (told ≡ early ++ late)
+    × IsConfirmed r id text last log × (asked ≡ (first ++ rest) ++ log) × (told ≡ early ++ late)
 EnteredBy false r id text last asked told = IsTaken r id text last asked told
 
 -- These requests entered the lines, one line after the other, of which the first has this id, and
@@ -162,8 +157,7 @@ abbrev pub StopsBehind : BatchFault → Batch → ℕ → List ℕ → List ℕ 
 StopsBehind f b id line said asked told =
     ((2 ^ 64 ≤ id) × (f ≡ fault.NoMoreIds) × (said ≡ []) × (asked ≡ []) × (told ≡ []))
     ⊎ (((heard : List Notice) × (IsOfAsking f ⊎ Hinders f b.waits b.receiver id line)
-    × StopsAsking f b.receiver id line asked heard
-    × (said ≡ []) × (told ≡ Begins id line ∷ heard))
+    × StopsAsking f b.receiver id line asked heard × (said ≡ []) × (told ≡ Begins id line ∷ heard))
     ⊎ ((last : FrameBody) × (heard : List Notice) × IsEntered b.waits b.receiver id line last
     × EnteredBy b.waits b.receiver id line last asked heard × (said ≡ reply_text last)
     × ((IsOfPrinting f × (told ≡ Begins id line ∷ heard))

@@ -1,15 +1,14 @@
 -- The log of a desk, asked for part after part (the project's own).
-use Rattle.std.specs.Prelude.{◌≡◌, ◌⊎◌, ◌+◌, ◌<◌, ◌≤◌, ◌++◌, ◌∷◌, [], ℕ, List, length, Result}
-use Rattle.std.specs.Prelude.{Ok, Err}
+use Rattle.std.specs.Prelude.{◌≡◌, ◌⊎◌, ◌+◌, ◌<◌, ◌≤◌, ◌++◌, ◌∷◌, [], ℕ, List, length, Result, Ok}
+use Rattle.std.specs.Prelude.{Err}
 use Rattle.acceptor.specs.declared.entry.Entry.{Entry}
 use Rattle.client.specs.declared.fault.ClientFault.TheVariants.{NoAnswer}
 use Rattle.wire.specs.declared.frame.FrameBody.{FrameBody}
-use Rattle.wire.specs.declared.frame.FrameBody.TheVariants as what
 use Rattle.batch.specs.Asking.{IsAnswer}
-pub use Rattle.batch.specs.Asking.{log_of}
 use Rattle.batch.specs.Dialing.{Adds, Asked, Told, asked_so}
-use Rattle.batch.specs.declared.asking.Receiver.{Receiver}
-use Rattle.batch.specs.declared.fault.BatchFault.{BatchFault}
+use Rattle.batch.specs.declared.{asking.Receiver.Receiver, fault.BatchFault.BatchFault}
+use Rattle.wire.specs.declared.frame.FrameBody.TheVariants as what
+pub use Rattle.batch.specs.Asking.{log_of}
 use Rattle.batch.specs.declared.fault.BatchFault.TheVariants as fault
 
 -- The answer has these entries of a log of this length, from the position on. The log has not
@@ -37,8 +36,7 @@ pub record IsPartBy (r : Receiver) (position least len : ℕ) (entries : List En
 abbrev pub AreFurther : Receiver → (position told : ℕ) → List Asked → List Entry → ℕ → Type 0
 AreFurther r position told [] entries last = (entries ≡ []) × (last ≡ told)
 AreFurther r position told (a ∷ asked) entries last =
-    (len : ℕ) × (first rest : List Entry) × (position < told)
-    × IsPartBy r position told len first a
+    (len : ℕ) × (first rest : List Entry) × (position < told) × IsPartBy r position told len first a
     × AreFurther r (position + length first) len asked rest last × (entries ≡ first ++ rest)
 
 -- These entries, from the log's beginning on, came by these requests, and the log was reported to

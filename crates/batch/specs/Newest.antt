@@ -1,17 +1,13 @@
 -- The newest sheet of a round: a desk is asked how it is, and then for the sheet at the length that
 -- it says its log has (the project's own).
 use Rattle.std.specs.Prelude.{◌≡◌, ◌⊎◌, ◌∷◌, [], ℕ, List, Option, None, Some, Ok, Err}
-use Rattle.client.specs.Standings.{status_request}
-use Rattle.client.specs.Versions.{sheet_version}
-use Rattle.wire.specs.declared.frame.Frame.{Frame}
-use Rattle.wire.specs.declared.frame.FrameBody.{FrameBody}
-use Rattle.wire.specs.declared.frame.FrameBody.TheVariants as what
+use Rattle.client.specs.{Standings.status_request, Versions.sheet_version}
+use Rattle.wire.specs.declared.frame.{Frame.Frame, FrameBody.FrameBody}
 use Rattle.wire.specs.declared.standing.DeskStatus.{DeskStatus}
-use Rattle.batch.specs.Asking.{IsAnswer}
+use Rattle.batch.specs.{Asking.IsAnswer, declared.newest_asked.RoundSheet.RoundSheet}
 use Rattle.batch.specs.Dialing.{Asked, asked_so}
-use Rattle.batch.specs.declared.asking.Receiver.{Receiver}
-use Rattle.batch.specs.declared.fault.BatchFault.{BatchFault}
-use Rattle.batch.specs.declared.newest_asked.RoundSheet.{RoundSheet}
+use Rattle.batch.specs.declared.{asking.Receiver.Receiver, fault.BatchFault.BatchFault}
+use Rattle.wire.specs.declared.frame.FrameBody.TheVariants as what
 
 -- the request for how the desk is
 abbrev pub standing_asked : Receiver → Frame

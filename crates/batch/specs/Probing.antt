@@ -1,12 +1,9 @@
 -- Whether a desk is asked by an Await (the project's own).
 use Rattle.std.specs.Prelude.{◌≡◌, ◌⊎◌, ◌≤◌, ◌∷◌, [], ℕ, Bool, true, false, Result, Ok, Err}
-use Rattle.client.specs.Standings.{await_request}
-use Rattle.client.specs.declared.fault.ClientFault.TheVariants.{Refused}
-use Rattle.wire.specs.Ranges.{IsDesk}
-use Rattle.wire.specs.declared.frame.FrameBody.{FrameBody}
+use Rattle.client.specs.{Standings.await_request, declared.fault.ClientFault.TheVariants.Refused}
+use Rattle.wire.specs.{Ranges.IsDesk, declared.frame.FrameBody.FrameBody}
 use Rattle.batch.specs.Dialing.{Adds, Told, asked_so}
-use Rattle.batch.specs.declared.fault.BatchFault.{BatchFault}
-use Rattle.batch.specs.declared.fault.BatchFault.TheVariants.{Asking}
+use Rattle.batch.specs.declared.fault.BatchFault.{BatchFault, TheVariants.Asking}
 
 -- a desk knows a request that it answers or refuses
 abbrev pub is_known : Result FrameBody BatchFault → Bool

@@ -2,10 +2,8 @@
 
 ghost use Rattle.std.specs.Prelude.{◌⊎◌, IfErr, IfOk};
 ghost use Rattle.wire.specs.Ranges.{IsDesk};
-ghost use Rattle.batch.specs.Asking.{IsOfAsking};
-ghost use Rattle.batch.specs.Dialing.{told};
+ghost use Rattle.batch.specs.{Asking.IsOfAsking, Dialing.told, Logs.AddsSo};
 ghost use Rattle.batch.specs.Entering.{EnteredBy, Hinders, IsEntered, StopsAsking};
-ghost use Rattle.batch.specs.Logs.{AddsSo};
 ghost use Rattle.batch.specs.Watching.{Telling, watched};
 
 use crate::asking::Receiver;

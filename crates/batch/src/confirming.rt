@@ -5,8 +5,7 @@ ghost use Rattle.std.specs.Prelude.{false};
 ghost use Rattle.wire.specs.Ranges.{IsDesk};
 ghost use Rattle.batch.specs.Asking.{IsAnswer, IsDecided, IsOfAsking, ask_of};
 ghost use Rattle.batch.specs.Confirming.{Confirms, HasFirst, IsAnother, IsDecidedAt, IsUnconfirmed};
-ghost use Rattle.batch.specs.Confirming.{entry_of};
-ghost use Rattle.batch.specs.declared.asking.Receiver.{Receiver as Desk};
+ghost use Rattle.batch.specs.{Confirming.entry_of, declared.asking.Receiver.Receiver as Desk};
 ghost use Rattle.batch.specs.model.Keeping.{AsksIn};
 
 use crate::asking::Receiver;

@@ -6,12 +6,10 @@ ghost use Rattle.wire.specs.Ranges.{IsDesk, IsEntry, IsFrame, IsId};
 ghost use Rattle.batch.specs.Asking.{EndsWaiting, IsAnswer, IsAwaited, IsDecided, IsOfAsking};
 ghost use Rattle.batch.specs.Asking.{IsPending, IsTaken, IsTakenOf, IsTurnedOff, IsUnknown, ask_of};
 ghost use Rattle.batch.specs.Asking.{asked_so, most_asked, submit_of, tick_of, ticks_in};
-ghost use Rattle.batch.specs.Dialing.{AsksBy, GoesBy};
-ghost use Rattle.batch.specs.model.Keeping.{AsksIn, way_of};
+ghost use Rattle.batch.specs.{Dialing.AsksBy, model.Trying.AreTicks, model.Trying.IsUndecided};
+ghost use Rattle.batch.specs.{Dialing.GoesBy, model.Keeping.AsksIn, model.Keeping.way_of};
 ghost use Rattle.batch.specs.Entering.{EnteredBy, Hinders, IsEntered, IsUnasked, StopsAsking};
-ghost use Rattle.batch.specs.Entering.{StopsTaking};
-ghost use Rattle.batch.specs.declared.asking.Receiver.{Receiver as Desk};
-ghost use Rattle.batch.specs.model.Trying.{AreTicks, IsUndecided};
+ghost use Rattle.batch.specs.{Entering.StopsTaking, declared.asking.Receiver.Receiver as Desk};
 ghost use Rattle.batch.specs.Watching.{Tells, Waits, watched};
 ghost use Rattle.batch.specs.declared.entering.Fate.TheVariants as fate;
 

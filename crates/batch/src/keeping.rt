@@ -3,11 +3,10 @@
 
 ghost use Rattle.std.specs.Prelude.{◌≡◌, ◌⊎◌, ◌<◌, ◌∷◌, [], IfErr, IfNone, IfOk, IfSome};
 ghost use Rattle.wire.specs.Ranges.{IsFrame};
-ghost use Rattle.batch.specs.Asking.{IsAnswer, IsOfAsking};
+ghost use Rattle.batch.specs.{Asking.IsAnswer, Asking.IsOfAsking, model.Keeping.way_of};
 ghost use Rattle.batch.specs.Dialing.{Adds, GoesBy, LetsGo, answer_of, asked_so, fault_of};
 ghost use Rattle.batch.specs.Dialing.{is_answered, is_hung_up, made_after, place_of};
 ghost use Rattle.batch.specs.model.Keeping.{Cuts, Hears, MakesAnew, MakesKept, Uses, standing};
-ghost use Rattle.batch.specs.model.Keeping.{way_of};
 
 use crate::dialing::{ConnectionLoss, Contact, Dial};
 use crate::fault::BatchFault;

@@ -5,12 +5,9 @@ ghost use Rattle.wire.specs.Ranges.{IsDesk};
 ghost use Rattle.std.specs.Io.KnownBytes.{Appends};
 ghost use Rattle.lines.specs.Bytes.{AppendsPart};
 ghost use Rattle.client.specs.Printing.{reply_text};
-ghost use Rattle.batch.specs.Dialing.{told};
+ghost use Rattle.batch.specs.{Dialing.told, Watching.watched, model.Keeping.InCall};
 ghost use Rattle.batch.specs.Entering.{AsksAll, AsksSome, EntersBy, EntersOne, FailsOne};
-ghost use Rattle.batch.specs.Entering.{IsOfPrinting};
-ghost use Rattle.batch.specs.Entering.{ends_after, is_refused, texts_of, told_answer};
-ghost use Rattle.batch.specs.Watching.{watched};
-ghost use Rattle.batch.specs.model.Keeping.{InCall};
+ghost use Rattle.batch.specs.Entering.{IsOfPrinting, ends_after, is_refused, texts_of, told_answer};
 
 use crate::asking::Receiver;
 use crate::dialing::{Contact, Dial};

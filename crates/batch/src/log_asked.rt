@@ -4,11 +4,9 @@ ghost use Rattle.std.specs.Prelude.{◌≡◌, ◌≤◌, ◌++◌, ℕ, List, I
 ghost use Rattle.std.specs.Prelude.{length};
 ghost use Rattle.acceptor.specs.declared.entry.Entry.{Entry};
 ghost use Rattle.wire.specs.Ranges.{IsDesk};
-ghost use Rattle.batch.specs.Asking.{IsAnswer, IsOfAsking};
-ghost use Rattle.batch.specs.Dialing.{AsksBy, told};
+ghost use Rattle.batch.specs.{Asking.IsAnswer, Asking.IsOfAsking, Dialing.AsksBy, Dialing.told};
 ghost use Rattle.batch.specs.Logs.{AddsSo, FailsLog, IsPart, TellsLog, log_of};
-ghost use Rattle.batch.specs.model.Keeping.{way_of};
-ghost use Rattle.batch.specs.model.Parts.{AddsPart, FailsPart};
+ghost use Rattle.batch.specs.model.{Keeping.way_of, Parts.AddsPart, Parts.FailsPart};
 ghost use Rattle.batch.specs.declared.asking.Receiver.{Receiver as Desk};
 
 use crate::asking::Receiver;

@@ -2,11 +2,9 @@
 
 ghost use Rattle.std.specs.Prelude.{◌≡◌, IfErr, IfOk};
 ghost use Rattle.wire.specs.Ranges.{IsDesk, IsFrame};
-ghost use Rattle.batch.specs.Asking.{IsOfAsking};
+ghost use Rattle.batch.specs.{Asking.IsOfAsking, Logs.AddsSo, model.Keeping.way_of};
 ghost use Rattle.batch.specs.Dialing.{AsksBy, told};
-ghost use Rattle.batch.specs.Logs.{AddsSo};
 ghost use Rattle.batch.specs.Newest.{FailsNewest, GivesNewest, sheet_at, standing_said};
-ghost use Rattle.batch.specs.model.Keeping.{way_of};
 
 use crate::asking::Receiver;
 use crate::dialing::{Contact, Dial};

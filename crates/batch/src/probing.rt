@@ -1,8 +1,7 @@
 //! Whether a desk is asked by an Await.
 
 ghost use Rattle.std.specs.Prelude.{◌≡◌};
-ghost use Rattle.batch.specs.Dialing.{told};
-ghost use Rattle.batch.specs.Probing.{KnowsAwait, is_known};
+ghost use Rattle.batch.specs.{Dialing.told, Probing.KnowsAwait, Probing.is_known};
 
 use crate::dialing::{Contact, Dial};
 use crate::fault::BatchFault;

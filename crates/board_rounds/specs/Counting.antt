@@ -3,8 +3,7 @@
 use Rattle.std.specs.Prelude.{ℕ, ◌+◌, ◌==◌, ◌&&◌, ◌||◌, not, Bool, false, List, length, take, drop}
 use Rattle.std.specs.List.{list_any, list_all}
 use Rattle.attempts.specs.declared.Value.{Value}
-use Rattle.formats.specs.declared.events.Format.{Format}
-use Rattle.formats.specs.declared.events.Format.TheVariants.{Ao5, Mo3, Bo1, Bo2, Bo3}
+use Rattle.formats.specs.declared.events.Format.{Format, TheVariants.Ao5}
 use Rattle.formats.specs.Results.{number_of, is_less}
 
 -- a number is better than a greater one, and than none
@@ -24,7 +23,4 @@ is_last_worst vs k v =
 -- attempt k, counted from 0, whose value this is
 abbrev pub is_left_out : Format → List Value → ℕ → Value → Bool
 is_left_out Ao5 vs k v = length vs == 5 && (is_first_best vs k v || is_last_worst vs k v)
-is_left_out Mo3 vs k v = false
-is_left_out Bo1 vs k v = false
-is_left_out Bo2 vs k v = false
-is_left_out Bo3 vs k v = false
+is_left_out _ vs k v = false

@@ -1,26 +1,17 @@
 -- Competitors, and the rounds that one of them is in, in HTML.
 use Rattle.std.specs.Prelude.{ℕ, ◌+◌, Bool, List, [], ◌∷◌, ◌++◌, codes, decimal, flat_map}
-use Rattle.std.specs.Prelude.{option_map, unwrap_or}
-use Rattle.std.specs.List.{range_with_len}
-use Rattle.attempts.specs.declared.Value.{Value}
-use Rattle.attempts.specs.declared.Unit.{Unit as Measure}
+use Rattle.std.specs.{Prelude.option_map, Prelude.unwrap_or, List.range_with_len}
+use Rattle.attempts.specs.declared.{Value.Value, Unit.Unit as Measure}
 use Rattle.commands.specs.Accepted.{name_of, round_of}
-use Rattle.formats.specs.declared.advance.Advance.{Advance}
-use Rattle.formats.specs.declared.events.Format.{Format}
-use Rattle.formats.specs.Events.{attempts_of, unit_of}
-use Rattle.formats.specs.Results.{average_of}
+use Rattle.formats.specs.declared.{advance.Advance.Advance, events.Format.Format}
+use Rattle.formats.specs.{Events.attempts_of, Events.unit_of, Results.average_of}
 use Rattle.rounds.specs.Tables.{Entrant, Table, entrant, place}
-use Rattle.texts.specs.declared.command.Command.{Command}
-use Rattle.texts.specs.declared.command.RoundId.{RoundId}
-use Rattle.texts.specs.declared.command.Settings.{Settings}
-use Rattle.markup.specs.board_page.Escaped.{escaped}
-use Rattle.markup.specs.Pieces.{fill}
-use Rattle.board_rounds.specs.Rounds.{below, heading}
+use Rattle.texts.specs.declared.command.{Command.Command, RoundId.RoundId, Settings.Settings}
+use Rattle.markup.specs.{board_page.Escaped.escaped, Pieces.fill}
+use Rattle.board_rounds.specs.{Rounds.below, Rows.result_cells}
 use Rattle.board_rounds.specs.Rows.{attempt_words, cell, line_end, name_cell, place_words}
-use Rattle.board_rounds.specs.Rows.{result_cells}
 use Rattle.round_words.specs.Words.{round_name, round_words, state_words}
-use Rattle.board_rounds.specs.declared.persons.TheConstants.{PEOPLE}
-use Rattle.board_rounds.specs.declared.persons.TheConstants.{START}
+use Rattle.board_rounds.specs.declared.persons.TheConstants.{PEOPLE, START}
 
 -- the round, whose own page is behind it
 unfoldable pub round_cell : List ℕ → List ℕ → List ℕ
@@ -60,16 +51,10 @@ entry cs n id = unwrap_or (option_map (entry_in n id) (round_of cs id.event id.r
 unfoldable pub person_start : ℕ → List ℕ → List ℕ
 person_start n name = fill START.now (escaped name ∷ decimal n ∷ [])
 
-abbrev pub person_headings : List ℕ
-person_headings =
-    heading (codes "round") ++ heading (codes "place") ++ heading (codes "average")
-    ++ heading (codes "best") ++ heading (codes "attempts") ++ heading (codes "state")
-    ++ codes "</tr></thead><tbody>\n"
-
 -- a competitor of this number and name, in those of these rounds that the competitor is in
 unfoldable pub person : List Command → ℕ → ℕ → List RoundId → List ℕ → List ℕ
 person cs position n ids name =
-    person_start n name ++ person_headings ++ flat_map (entry cs n) ids ++ below position
+    person_start n name ++ flat_map (entry cs n) ids ++ below position
 
 -- a competitor, where the number is registered
 abbrev pub person_of : List Command → ℕ → ℕ → List RoundId → List ℕ

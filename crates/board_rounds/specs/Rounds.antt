@@ -1,23 +1,21 @@
 -- A round in HTML.
-use Rattle.std.specs.Prelude.{ℕ, ◌+◌, Bool, true, false, List, [], ◌++◌, codes, decimal}
-use Rattle.std.specs.Prelude.{flat_map, option_map, unwrap_or}
-use Rattle.std.specs.List.{range_with_len}
+use Rattle.std.specs.Prelude.{ℕ, ◌+◌, Bool, true, false, List, [], ◌∷◌, ◌++◌, codes, decimal}
+use Rattle.std.specs.{Prelude.flat_map, Prelude.option_map, Prelude.unwrap_or, List.range_with_len}
 use Rattle.commands.specs.Accepted.{round_of, seen_of}
-use Rattle.formats.specs.declared.advance.Advance.{Advance}
+use Rattle.formats.specs.{declared.advance.Advance.Advance, Events.attempts_of, Events.unit_of}
 use Rattle.formats.specs.declared.advance.Advance.TheVariants.{Final, Top, Percent}
-use Rattle.formats.specs.Events.{attempts_of, unit_of}
 use Rattle.rounds.specs.Tables.{Table, standings}
 use Rattle.sheets.specs.Sheet.{goes_through}
-use Rattle.texts.specs.declared.command.Command.{Command}
-use Rattle.texts.specs.declared.command.RoundId.{RoundId}
-use Rattle.texts.specs.declared.command.Settings.{Settings}
+use Rattle.texts.specs.declared.command.{Command.Command, RoundId.RoundId, Settings.Settings}
+use Rattle.markup.specs.Pieces.{fill}
 use Rattle.board_rounds.specs.Rows.{listed}
+use Rattle.board_rounds.specs.declared.rounds_shown.TheConstants.{BELOW, HEADING}
 use Rattle.round_words.specs.Words.{round_name, round_words, settings_words, state_words}
 
 -- ---- above the lines
 
 unfoldable pub heading : List ℕ → List ℕ
-heading text = codes "<th scope=\"col\">" ++ text ++ codes "</th>"
+heading text = fill HEADING.now (text ∷ [])
 
 -- attempts are counted from 1
 abbrev pub attempt_heading : ℕ → List ℕ
@@ -60,9 +58,7 @@ table_start text count =
 
 -- the position that it is at, as people read it
 unfoldable pub below : ℕ → List ℕ
-below position =
-    codes "</tbody></table>\n<p class=\"at\">as of result " ++ decimal position
-    ++ codes "</p></section>\n"
+below position = fill BELOW.now (decimal position ∷ [])
 
 -- ---- a round
 

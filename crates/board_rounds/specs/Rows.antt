@@ -1,25 +1,19 @@
 -- What counts of an entrant in a round: the texts of its sheet (`sheets`), but for what people read
 -- otherwise: no place where there is no attempt, the attempts that do not count in parentheses, and
 -- who would advance where the round is open (the project's own).
-use Rattle.std.specs.Prelude.{ℕ, Bool, true, false, not, ◌&&◌, nat_le, if◌then◌else◌, List, []}
-use Rattle.std.specs.Prelude.{◌∷◌, ◌++◌, codes, decimal, flat_map, slice_get, option_map, unwrap_or}
-use Rattle.std.specs.Prelude.{is_some, Option, None, Some}
-use Rattle.std.specs.List.{range_with_len}
-use Rattle.attempts.specs.declared.Value.{Value}
-use Rattle.attempts.specs.declared.Unit.{Unit as Measure}
-use Rattle.attempts.specs.Texts.{value_text}
-use Rattle.formats.specs.declared.advance.Advance.{Advance}
+use Rattle.std.specs.Prelude.{ℕ, Bool, true, false, not, ◌&&◌, nat_le, if◌then◌else◌, List, [], ◌∷◌}
+use Rattle.std.specs.Prelude.{◌++◌, codes, decimal, flat_map, is_some, Option, None, Some}
+use Rattle.std.specs.{Prelude.slice_get, Prelude.option_map, Prelude.unwrap_or, List.range_with_len}
+use Rattle.attempts.specs.{declared.Value.Value, declared.Unit.Unit as Measure, Texts.value_text}
+use Rattle.formats.specs.declared.{advance.Advance.Advance, events.Format.Format}
 use Rattle.formats.specs.declared.advance.Advance.TheVariants.{Final, Top, Percent}
-use Rattle.formats.specs.declared.events.Format.{Format}
-use Rattle.formats.specs.declared.results.Averaged.{Averaged}
-use Rattle.formats.specs.Events.{attempts_of}
+use Rattle.formats.specs.{declared.results.Averaged.Averaged, Events.attempts_of}
 use Rattle.formats.specs.Results.{average_of, average_text, best_of, number_of}
 use Rattle.rounds.specs.Tables.{Entrant, Table, entrant, place}
 use Rattle.sheets.specs.Sheet.{best_text, name_text}
-use Rattle.texts.specs.declared.command.Command.{Command}
-use Rattle.texts.specs.declared.command.Settings.{Settings}
-use Rattle.board_rounds.specs.Counting.{is_left_out}
-use Rattle.markup.specs.board_page.Escaped.{escaped}
+use Rattle.texts.specs.declared.command.{Command.Command, Settings.Settings}
+use Rattle.board_rounds.specs.{Counting.is_left_out, declared.cells.TheConstants.NAME}
+use Rattle.markup.specs.{board_page.Escaped.escaped, Pieces.fill}
 
 -- ---- texts
 
@@ -57,9 +51,7 @@ cell text = codes "<td>" ++ text ++ codes "</td>"
 
 -- the name of a competitor, whose own page is behind it
 unfoldable pub name_cell : ℕ → List ℕ → List ℕ
-name_cell number name =
-    codes "<th scope=\"row\" dir=\"auto\"><a href=\"/person/" ++ decimal number ++ codes "\">"
-    ++ escaped name ++ codes "</a></th>"
+name_cell number name = fill NAME.now (decimal number ∷ escaped name ∷ [])
 
 -- the beginning of a line, with a class for the style
 abbrev pub line_start : Bool → Bool → List ℕ

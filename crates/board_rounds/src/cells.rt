@@ -10,12 +10,13 @@ ghost use Rattle.board_rounds.specs.Rows.{person_cells, place_words, result_cell
 use crate::counting::is_left_out;
 use attempts::{NoMemory, Unit, Value, print_value, push_decimal};
 use formats::{Advance, Averaged, Format, print_average};
-use markup::board_page::push_escaped;
+use markup::Piece::{Number, Text};
+use markup::fill;
 use std::alloc::Global;
 
 /// Adds a cell with a text that HTML reads as it is.
 #[tactic(auto, unfolding(crate::specs::Rows::cell))]
-pub(crate) fn push_cell(out: &mut Vec<u8>, text: &[u8]) -> Result<(), NoMemory>
+pub fn push_cell(out: &mut Vec<u8>, text: &[u8]) -> Result<(), NoMemory>
     ensures { OnOk result (out.new.items ≡ out.old.items ++ cell text.now) }
 {
     out.extend_from_slice(b"<td>")?;
@@ -109,19 +110,18 @@ pub(crate) fn push_line_start(
     }
 }
 
+const NAME: &[u8] = b"<th scope=\"row\" dir=\"auto\"><a href=\"/person/$\">$</a></th>";
+
+#[tactic(auto, unfolding(crate::specs::Rows::name_cell))]
 pub(crate) fn push_name(out: &mut Vec<u8>, number: u16, name: &[u8]) -> Result<(), NoMemory>
     ensures { OnOk result (out.new.items ≡ out.old.items ++ name_cell number name.now) }
 {
-    out.extend_from_slice(b"<th scope=\"row\" dir=\"auto\"><a href=\"/person/")?;
-    push_decimal(out, u32::from(number))?;
-    out.extend_from_slice(b"\">")?;
-    push_escaped(out, name)?;
-    out.extend_from_slice(b"</a></th>")?;
-    Ok(())
+    fill(out, NAME, &[Number(number as u64), Text(name)])
 }
 
+/// Adds a cell with a number, in decimal.
 #[tactic(auto, unfolding(crate::specs::Rows::cell))]
-pub(crate) fn push_number(out: &mut Vec<u8>, number: u16) -> Result<(), NoMemory>
+pub fn push_number(out: &mut Vec<u8>, number: u16) -> Result<(), NoMemory>
     ensures { OnOk result (out.new.items ≡ out.old.items ++ cell (decimal number)) }
 {
     out.extend_from_slice(b"<td>")?;
@@ -146,8 +146,8 @@ pub(crate) fn push_person_cells(
     push_name(out, number, name)
 }
 
-/// Adds the average and the best of an entrant.
-pub(crate) fn push_results(
+/// Adds the average and the best of an entrant, as the sheet has them.
+pub fn push_results(
     out: &mut Vec<u8>,
     average: Averaged,
     best: Value,

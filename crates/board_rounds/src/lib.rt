@@ -2,7 +2,8 @@
 //!
 //! [`push_round`] makes a round's table with what is said of the round, [`push_link`] a link to
 //! it, [`push_podium`] the first three of a final, [`push_person`] the rounds that a competitor is
-//! in, and [`push_people`] all competitors.
+//! in, and [`push_people`] all competitors. Other pages make their tables of a round of the same
+//! cells: [`push_cell`], [`push_number`], [`push_results`], [`push_attempt_headings`].
 #![tactic(auto)]
 
 mod cells;
@@ -12,5 +13,6 @@ mod persons;
 mod rounds_shown;
 mod shown;
 
+pub use cells::{push_cell, push_number, push_results};
 pub use persons::{push_people, push_person};
-pub use rounds_shown::{push_link, push_podium, push_round};
+pub use rounds_shown::{push_attempt_headings, push_link, push_podium, push_round};

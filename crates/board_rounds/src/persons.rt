@@ -1,14 +1,13 @@
 //! Competitors, and the rounds that one of them is in, in HTML.
 
 ghost use Rattle.std.specs.Prelude.{◌≡◌, ◌<◌, ◌≤◌, ◌++◌, OnOk, IfOk, flat_map};
-ghost use Rattle.board_rounds.specs.Persons.{attempts_words, competitor, competitors, entry};
-ghost use Rattle.board_rounds.specs.Persons.{people, next_competitor, person_headings};
-ghost use Rattle.board_rounds.specs.Persons.{person_of, person_start, round_cell, state_end};
+ghost use Rattle.board_rounds.specs.Persons.{attempts_words, competitor, round_cell, state_end};
+ghost use Rattle.board_rounds.specs.{Persons.competitors, Persons.entry, model.Shown.entry_shown};
+ghost use Rattle.board_rounds.specs.Persons.{people, next_competitor, person_of, person_start};
 ghost use Rattle.round_words.specs.Words.{round_name, round_words};
-ghost use Rattle.board_rounds.specs.model.Shown.{entry_shown};
 
 use crate::cells::{attempt_text, place_text, push_cell, push_name, push_number, push_results};
-use crate::rounds_shown::{push_below, push_heading};
+use crate::rounds_shown::push_below;
 use crate::shown::{BoardRound, shown_round};
 use attempts::{NoMemory, Unit, Value};
 use commands::Meet;
@@ -115,25 +114,16 @@ fn push_entries(
 
 const START: &[u8] = b"\
 <section class=\"person\"><table><caption><h2><bdi>$</bdi>, number $</h2></caption>
-<thead><tr>";
+<thead><tr><th scope=\"col\">round</th><th scope=\"col\">place</th><th scope=\"col\">average</th>\
+<th scope=\"col\">best</th><th scope=\"col\">attempts</th><th scope=\"col\">state</th></tr></thead>\
+<tbody>
+";
 
 #[tactic(auto, unfolding(crate::specs::Persons::person_start))]
 fn push_start(out: &mut Vec<u8>, number: u16, name: &[u8]) -> Result<(), NoMemory>
     ensures { OnOk result (out.new.items ≡ out.old.items ++ person_start number name.now) }
 {
     fill(out, START, &[Text(name), Number(number as u64)])
-}
-
-fn push_person_headings(out: &mut Vec<u8>) -> Result<(), NoMemory>
-    ensures { OnOk result (out.new.items ≡ out.old.items ++ person_headings) }
-{
-    push_heading(out, b"round")?;
-    push_heading(out, b"place")?;
-    push_heading(out, b"average")?;
-    push_heading(out, b"best")?;
-    push_heading(out, b"attempts")?;
-    push_heading(out, b"state")?;
-    out.extend_from_slice(b"</tr></thead><tbody>\n")
 }
 
 /// Adds a competitor of a meet in HTML, as it is after this many commands: name and number, and
@@ -158,7 +148,6 @@ pub fn push_person(
         return Ok(());
     };
     push_start(out, number, name)?;
-    push_person_headings(out)?;
     push_entries(out, meet, number, ids)?;
     push_below(out, position)
 }

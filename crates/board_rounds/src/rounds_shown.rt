@@ -1,47 +1,43 @@
 //! Rounds in HTML.
 
-ghost use Rattle.std.specs.Prelude.{◌≡◌, ◌++◌, OnOk, decimal};
+ghost use Rattle.std.specs.Prelude.{◌≡◌, ◌++◌, OnOk};
 ghost use Rattle.formats.specs.Events.{attempts_of};
 ghost use Rattle.board_rounds.specs.Rounds.{above, attempt_headings, below, conditions, heading};
 ghost use Rattle.board_rounds.specs.Rounds.{headings, link, place_heading, podium, said, section};
 ghost use Rattle.board_rounds.specs.Rounds.{table_start, title};
+ghost use Rattle.markup.specs.Pieces.{piece_text};
 ghost use Rattle.round_words.specs.Words.{round_name, round_words, settings_words, state_words};
 ghost use Rattle.board_rounds.specs.model.Shown.{IsOpened, link_shown, section_shown};
 
 use crate::lines::push_entrants;
 use crate::shown::{BoardRound, shown_round};
-use attempts::{NoMemory, push_decimal};
+use attempts::NoMemory;
 use commands::Meet;
 use formats::{Advance, Event, attempts_of};
+use markup::Piece::{Html, Number};
+use markup::{Piece, fill};
 use round_words::{push_round_name, push_round_words, push_settings, push_state_words};
 use texts::{RoundId, Settings};
 
+const HEADING: &[u8] = b"<th scope=\"col\">$</th>";
+
+const BELOW: &[u8] = b"</tbody></table>\n<p class=\"at\">as of result $</p></section>\n";
+
 /// Adds the name of a column.
-pub(crate) fn push_heading(out: &mut Vec<u8>, text: &[u8]) -> Result<(), NoMemory>
-    ensures { OnOk result (out.new.items ≡ out.old.items ++ heading text.now) }
+#[tactic(auto, unfolding(crate::specs::Rounds::heading))]
+fn push_heading(out: &mut Vec<u8>, text: Piece<'_>) -> Result<(), NoMemory>
+    ensures { OnOk result (out.new.items ≡ out.old.items ++ heading (piece_text text.entry)) }
 {
-    out.extend_from_slice(b"<th scope=\"col\">")?;
-    out.extend_from_slice(text)?;
-    out.extend_from_slice(b"</th>")?;
-    Ok(())
+    fill(out, HEADING, &[text])
 }
 
-fn push_number_heading(out: &mut Vec<u8>, number: u32) -> Result<(), NoMemory>
-    ensures { OnOk result (out.new.items ≡ out.old.items ++ heading (decimal number)) }
-{
-    out.extend_from_slice(b"<th scope=\"col\">")?;
-    push_decimal(out, number)?;
-    out.extend_from_slice(b"</th>")?;
-    Ok(())
-}
-
-/// Adds the names of the attempts' columns.
-fn push_attempt_headings(out: &mut Vec<u8>, count: u8) -> Result<(), NoMemory>
+/// Adds the names of the columns of this many attempts, which are counted from 1.
+pub fn push_attempt_headings(out: &mut Vec<u8>, count: u8) -> Result<(), NoMemory>
     ensures { OnOk result (out.new.items ≡ out.old.items
         ++ attempt_headings count) }
 {
     for place in 0..count {
-        push_number_heading(out, u32::from(place) + 1)?;
+        push_heading(out, Number(u64::from(place) + 1))?;
     }
     Ok(())
 }
@@ -89,12 +85,12 @@ fn push_headings(
         ++ headings (said id settings closed) (attempts_of settings.format)) }
 {
     push_place_heading(out, id, settings, closed)?;
-    push_heading(out, b"number")?;
-    push_heading(out, b"name")?;
-    push_heading(out, b"average")?;
-    push_heading(out, b"best")?;
+    push_heading(out, Html(b"number"))?;
+    push_heading(out, Html(b"name"))?;
+    push_heading(out, Html(b"average"))?;
+    push_heading(out, Html(b"best"))?;
     push_attempt_headings(out, attempts_of(settings.format))?;
-    push_heading(out, b"advances")
+    push_heading(out, Html(b"advances"))
 }
 
 fn push_table_start(
@@ -158,9 +154,7 @@ fn push_above(out: &mut Vec<u8>, shown: BoardRound<'_>) -> Result<(), NoMemory>
 pub(crate) fn push_below(out: &mut Vec<u8>, position: u32) -> Result<(), NoMemory>
     ensures { OnOk result (out.new.items ≡ out.old.items ++ below position) }
 {
-    out.extend_from_slice(b"</tbody></table>\n<p class=\"at\">as of result ")?;
-    push_decimal(out, position)?;
-    out.extend_from_slice(b"</p></section>\n")
+    fill(out, BELOW, &[Number(position as u64)])
 }
 
 /// Adds a round, or its podium.

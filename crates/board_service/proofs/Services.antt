@@ -3,13 +3,11 @@ use Rattle.std.proofs.Common.{◌≡◌, ℕ, List, Option, Some, sym, subst}
 use Rattle.http.specs.declared.request.Request.{Request}
 use Rattle.http_server.specs.declared.response.Response.{Response}
 use Rattle.kept_mirror.specs.Mirrorings.{MirroringOf}
-use Rattle.markup.specs.declared.replies.page.Page.{Page}
-use Rattle.markup.specs.replies.Replies.{Replies}
+use Rattle.markup.specs.{declared.replies.page.Page.Page, replies.Replies.Replies}
 use Rattle.board_views.specs.Views.{IsPageAt}
-use Rattle.board_service.specs.declared.shelf.Shelf.{Shelf}
+use Rattle.board_service.specs.{declared.shelf.Shelf.Shelf, Shelves.AreAllAt, Shelves.page_on}
 use Rattle.hall_survey.specs.Halls.{HallDesksOf}
 use Rattle.board_service.specs.Services.{ServiceOf, ShowsPage, path_of, service}
-use Rattle.board_service.specs.Shelves.{AreAllAt, page_on}
 
 pub shows : (s : ServiceOf) (request : Request (List ℕ)) (response : Response) (path : List ℕ)
     (page : Option Page) → path ≡ path_of request

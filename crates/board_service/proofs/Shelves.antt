@@ -1,17 +1,14 @@
 -- Pages that are kept by their paths, where one is put there and where none is left.
 use Rattle.std.proofs.Common.{◌≡◌, ◌⊎◌, inl, inr, ℕ, List, [], Option, None, Some, Bool, true}
-use Rattle.std.proofs.Common.{false, cond, refl, sym, ap, subst, ◌∙◌, unwrap_or, String}
-use Rattle.std.proofs.Common.{bytes_eq, string_bytes, string_eq}
-use Rattle.std.proofs.lemmas.Map.Text.{hash_map_updates_text}
-use Rattle.std.proofs.lemmas.Slice.Eq.{bytes_eq-Decides}
-use Rattle.std.specs.Map.{lookup}
+use Rattle.std.proofs.Common.{false, cond, refl, sym, ap, subst, ◌∙◌, unwrap_or, String, bytes_eq}
+use Rattle.std.{proofs.Common.string_bytes, proofs.Common.string_eq, specs.Map.lookup}
+use Rattle.std.proofs.lemmas.{Map.Text.hash_map_updates_text, Slice.Eq.bytes_eq-Decides}
 use Rattle.acceptor.specs.declared.entry.Entry.{Entry}
 use Rattle.indexmap.specs.IndexMap.{IndexMap, Updates, get_by_text}
-use Rattle.desk_sockets.specs.declared.desk_stream.DialogueChange.TheVariants as kept
 use Rattle.markup.specs.declared.replies.page.Page.{Page}
 use Rattle.board_views.specs.Views.{IsPageAt}
-use Rattle.board_service.specs.declared.shelf.Shelf.{Shelf}
-use Rattle.board_service.specs.Shelves.{AreAllAt, Puts}
+use Rattle.board_service.specs.{declared.shelf.Shelf.Shelf, Shelves.AreAllAt, Shelves.Puts}
+use Rattle.desk_sockets.specs.declared.desk_stream.DialogueChange.TheVariants as kept
 
 module _ {Y S : Type 0} (m n : IndexMap (String Y) Page S) where
   -- a map without an entry
@@ -49,8 +46,7 @@ module _ {Y S : Type 0} (before room after : IndexMap (String Y) Page S)
     (at : List ℕ) (page : Page) where
   pub put_after : (key : String Y) → string_bytes key ≡ at
       → Updates string_eq room after key (Some page) → (q : List ℕ) (p : Page)
-      → get_by_text after q ≡ Some p
-      → (get_by_text before q ≡ Some p) ⊎ ((q ≡ at) × (p ≡ page))
+      → get_by_text after q ≡ Some p → (get_by_text before q ≡ Some p) ⊎ ((q ≡ at) × (p ≡ page))
   put_after key is updates q p there =
       elim (put_by_text room after key page updates q p there) as
       (λ _. (get_by_text before q ≡ Some p) ⊎ ((q ≡ at) × (p ≡ page))) [
@@ -59,8 +55,7 @@ module _ {Y S : Type 0} (before room after : IndexMap (String Y) Page S)
       ]
 
   pub not_put_after : after.entries ≡ room.entries → (q : List ℕ) (p : Page)
-      → get_by_text after q ≡ Some p
-      → (get_by_text before q ≡ Some p) ⊎ ((q ≡ at) × (p ≡ page))
+      → get_by_text after q ≡ Some p → (get_by_text before q ≡ Some p) ⊎ ((q ≡ at) × (p ≡ page))
   not_put_after same q p there = inl (fewer q p (same_by_text room after same q p there))
 
 -- ---- shelves

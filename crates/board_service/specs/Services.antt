@@ -1,17 +1,14 @@
 -- What the board answers (the project's own).
 use Rattle.std.specs.Prelude.{◌≡◌, ℕ, ◌&&◌, Bool, true, false, List, [], ◌∷◌, Option, codes, min}
 use Rattle.std.specs.Str.{bytes_eq}
-use Rattle.log_follower.specs.Following.{wait_of}
-use Rattle.http.specs.declared.request.Request.{Request}
-use Rattle.http.specs.Request.{head_of}
+use Rattle.http.specs.{declared.request.Request.Request, Request.head_of}
 use Rattle.http_uri.specs.Uri.{uri_path}
 use Rattle.http1.specs.Fields.{Header}
-use Rattle.http_server.specs.declared.response.Response.{Response}
-use Rattle.http_server.specs.Response.{IsResponse}
+use Rattle.http_server.specs.{declared.response.Response.Response, Response.IsResponse}
 use Rattle.markup.specs.declared.replies.page.Page.{Page}
 use Rattle.markup.specs.replies.Replies.{Replies, is_read, no_store}
 use Rattle.board_views.specs.Views.{IsPageAt}
-use Rattle.kept_mirror.specs.Mirrorings.{MirroringOf}
+use Rattle.kept_mirror.specs.Mirrorings.{MirroringOf, wait_of}
 use Rattle.hall_survey.specs.Halls.{HallDesksOf, IsStatus, ages_text, desks_wait}
 
 -- the title of the competition, the mirror with what keeps it up, the desks that are asked, and
@@ -29,7 +26,7 @@ service title mirroring desks time =
 -- in how many milliseconds something is to be done for the mirror or for the survey of a desk, if
 -- nothing comes: as soon as it is for one of them
 abbrev pub service_wait : ServiceOf → ℕ → ℕ
-service_wait s now = min (desks_wait s.desks now) (wait_of s.mirroring.follower now)
+service_wait s now = min (desks_wait s.desks now) (wait_of s.mirroring now)
 
 -- the path that a request asks for, without the query
 abbrev pub path_of : Request (List ℕ) → List ℕ

@@ -1,21 +1,13 @@
 -- The names of rounds, cut into their parts.
-use Rattle.std.proofs.Common.{◌≡◌, ◌≢◌, ℕ, ◌≤◌, ◌++◌, ◌∷◌, [], List, Option, Some, None, true}
-use Rattle.std.proofs.Common.{false}
-use Rattle.std.proofs.Common.{Bool, refl, sym, ap, ◌∙◌, codes, decimal, arith, not, ◌==◌, eqb-true}
-use Rattle.std.specs.Prelude.{IfSome}
-use Rattle.std.specs.Char.{is_ascii_digit}
-use Rattle.std.specs.List.{list_all}
+use Rattle.std.proofs.Common.{◌≡◌, ◌++◌, List, Option, Some, false, codes, decimal, arith, eqb-true}
+use Rattle.std.proofs.Common.{◌≢◌, ℕ, ◌≤◌, ◌∷◌, [], None, true, Bool, refl, sym, ap, ◌∙◌, not, ◌==◌}
+use Rattle.std.specs.{Prelude.IfSome, Char.is_ascii_digit, List.list_all}
 use Rattle.std.proofs.lemmas.Bool.{false≢true}
 use Rattle.std.proofs.lemmas.List.{append_assoc}
-use Rattle.formats.specs.declared.events.Event.{Event}
-use Rattle.formats.specs.declared.events.Event.TheVariants.{Cube3, Cube2, Cube4, Cube5, Cube6}
-use Rattle.formats.specs.declared.events.Event.TheVariants.{Cube7, Blind3, FewestMoves, OneHanded}
-use Rattle.formats.specs.declared.events.Event.TheVariants.{Clock, Megaminx, Pyraminx, Skewb}
-use Rattle.formats.specs.declared.events.Event.TheVariants.{Square1, Blind4, Blind5, MultiBlind}
+use Rattle.formats.specs.declared.events.Event.{Event, TheVariants.Cube3}
 use Rattle.formats.specs.Events.{event_name, event_of_name}
 use Rattle.formats.proofs.Naming.{only_name-event}
-use Rattle.texts.specs.declared.command.RoundId.{RoundId}
-use Rattle.texts.specs.Fields.{cut}
+use Rattle.texts.specs.{declared.command.RoundId.RoundId, Fields.cut}
 use Rattle.texts.proofs.Cuts.{and-true, behind, cut-behind, cut_spelled, lacks}
 use Rattle.texts.proofs.FieldSpellings.{decimal_digits}
 use Rattle.round_words.specs.Words.{round_name}
@@ -23,22 +15,7 @@ use Rattle.board_views.specs.Paths.{IsNameOf, IsTableNameOf}
 
 event_lacks : (e : Event) → lacks 45 (event_name e) ≡ true
 event_lacks Cube3 = refl
-event_lacks Cube2 = refl
-event_lacks Cube4 = refl
-event_lacks Cube5 = refl
-event_lacks Cube6 = refl
-event_lacks Cube7 = refl
-event_lacks Blind3 = refl
-event_lacks FewestMoves = refl
-event_lacks OneHanded = refl
-event_lacks Clock = refl
-event_lacks Megaminx = refl
-event_lacks Pyraminx = refl
-event_lacks Skewb = refl
-event_lacks Square1 = refl
-event_lacks Blind4 = refl
-event_lacks Blind5 = refl
-event_lacks MultiBlind = refl
+event_lacks _ = refl
 
 digits_lack : (bytes : List ℕ) → list_all is_ascii_digit bytes ≡ true → lacks 47 bytes ≡ true
 digits_lack [] h = refl
@@ -49,8 +26,7 @@ digits_lack (b ∷ bytes) h =
   where
     step : (t : Bool) → (b == 47) ≡ t → is_ascii_digit b ≡ true → not t ≡ true
     step false is digit = refl
-    step true is digit =
-        absurd (false≢true (ap is_ascii_digit (sym (eqb-true b 47 is)) ∙ digit))
+    step true is digit = absurd (false≢true (ap is_ascii_digit (sym (eqb-true b 47 is)) ∙ digit))
 
 -- what is before and after the first of a byte, in a text that has it there
 pub parts_of : (by : ℕ) (text front back : List ℕ) (x : List ℕ × Option (List ℕ))
@@ -69,10 +45,8 @@ parts_of by text front back x e free is =
 pub of_parts : (by : ℕ) (text back : List ℕ) (x : List ℕ × Option (List ℕ)) → x ≡ cut by text
     → x.1 ≡ Some back → text ≡ (x.0 ++ by ∷ []) ++ back
 of_parts by text back x e there =
-    cut_spelled by text
-    ∙ ap (λ (y : List ℕ × Option (List ℕ)). y.0 ++ behind by y.1) (sym e)
-    ∙ ap (λ (o : Option (List ℕ)). x.0 ++ behind by o) there
-    ∙ sym (append_assoc x.0 (by ∷ []) back)
+    cut_spelled by text ∙ ap (λ (y : List ℕ × Option (List ℕ)). y.0 ++ behind by y.1) (sym e)
+    ∙ ap (λ (o : Option (List ℕ)). x.0 ++ behind by o) there ∙ sym (append_assoc x.0 (by ∷ []) back)
 
 -- a text that is a round's name
 pub name_parts : (id : RoundId) (text : List ℕ) (x : List ℕ × Option (List ℕ))

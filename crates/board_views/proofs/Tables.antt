@@ -9,8 +9,7 @@ use Rattle.answers.specs.Answers.{sheet_at}
 use Rattle.board_views.specs.Rounds.{table_at}
 
 pub table_there : (log : List Entry) (position : ℕ) (id : RoundId) (text : List ℕ)
-    → position ≤ length log
-    → sheet_at style.Table log position id.event id.round ≡ Some text
+    → position ≤ length log → sheet_at style.Table log position id.event id.round ≡ Some text
     → Some text ≡ table_at log position id
 unfolding table_at
 table_there log position id text there is =
@@ -25,12 +24,10 @@ table_not_there log position id above =
     rw test refl
 
 pub table_not_open : (log : List Entry) (position : ℕ) (id : RoundId)
-    → sheet_at style.Table log position id.event id.round ≡ None
-    → None ≡ table_at log position id
+    → sheet_at style.Table log position id.event id.round ≡ None → None ≡ table_at log position id
 unfolding table_at
 table_not_open log position id none = step (nat_le position (length log))
   where
-    step : (b : Bool)
-        → None ≡ cond b (sheet_at style.Table log position id.event id.round) None
+    step : (b : Bool) → None ≡ cond b (sheet_at style.Table log position id.event id.round) None
     step true = sym none
     step false = refl

@@ -34,19 +34,13 @@ IsRound id = (1 ≤ id.round) × (id.round ≤ last_round)
 
 -- a log has at most 65,536 entries, and the numbers of competitors are 1 to 9999
 abbrev pub IsView : View → Type 0
-IsView Overview = Unit {0}
-IsView Hall = Unit {0}
 IsView (HallRound id) = IsRound id
 IsView (Round id) = IsRound id
 IsView (Table id) = IsRound id
 IsView (RoundAt position id) = (position ≤ 65536) × IsRound id
 IsView (TableAt position id) = (position ≤ 65536) × IsRound id
 IsView (Person number) = (1 ≤ number) × (number ≤ 9999)
-IsView Podiums = Unit {0}
-IsView People = Unit {0}
-IsView Log = Unit {0}
-IsView Style = Unit {0}
-IsView Script = Unit {0}
+IsView _ = Unit {0}
 
 -- this text is the name of a round, and that of its table
 abbrev pub IsNameOf : RoundId → List ℕ → Type 0

@@ -1,15 +1,12 @@
 -- Rounds at a position of a log (the project's own).
-use Rattle.std.specs.Prelude.{ℕ, List, map, flat_map, length, take, nat_le, Option, None}
-use Rattle.std.specs.Prelude.{if◌then◌else◌}
-use Rattle.std.specs.List.{range_with_len}
+use Rattle.std.specs.Prelude.{ℕ, List, map, flat_map, length, take, nat_le, Option, if◌then◌else◌}
+use Rattle.std.specs.{Prelude.None, List.range_with_len}
 use Rattle.acceptor.specs.declared.entry.Entry.{Entry}
 use Rattle.answers.specs.Answers.{sheet_at, texts}
 use Rattle.commands.specs.History.{history}
-use Rattle.formats.specs.declared.events.Event.{Event}
-use Rattle.formats.specs.Events.{all_events, last_round}
+use Rattle.formats.specs.{declared.events.Event.Event, Events.all_events, Events.last_round}
+use Rattle.texts.specs.declared.command.{Command.Command, RoundId.RoundId}
 use Rattle.formats.specs.declared.styles.SheetStyle.TheVariants as style
-use Rattle.texts.specs.declared.command.Command.{Command}
-use Rattle.texts.specs.declared.command.RoundId.{RoundId}
 
 -- the accepted commands of a log
 abbrev pub accepted_in : List Entry → List Command

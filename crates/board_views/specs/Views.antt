@@ -3,23 +3,19 @@ use Rattle.std.specs.Prelude.{◌≡◌, ◌⊎◌, ℕ, List, [], ◌++◌, len
 use Rattle.std.specs.Prelude.{option_map, if◌then◌else◌, Option, None, Some}
 use Rattle.acceptor.specs.declared.entry.Entry.{Entry}
 use Rattle.http_header.specs.FieldValue.{plain_value}
-use Rattle.markup.specs.board_page.Escaped.{escaped}
-use Rattle.markup.specs.declared.replies.page.Page.{Page}
+use Rattle.markup.specs.{board_page.Escaped.escaped, declared.replies.page.Page.Page}
 use Rattle.markup.specs.replies.Tags.{tag_text}
 use Rattle.commands.specs.Accepted.{name_of, round_of}
-use Rattle.texts.specs.declared.command.Command.{Command}
+use Rattle.texts.specs.declared.command.{Command.Command, RoundId.RoundId}
 use Rattle.round_words.specs.Words.{round_words}
-use Rattle.texts.specs.declared.command.RoundId.{RoundId}
 use Rattle.archive.specs.Archive.{archive_text}
 use Rattle.board_rounds.specs.Persons.{people, person_of}
 use Rattle.board_rounds.specs.Rounds.{link, podium, section}
-use Rattle.board_views.specs.declared.paths.View.{View}
+use Rattle.board_views.specs.{declared.paths.View.View, Frame.framed, Paths.StandsAt}
 use Rattle.board_views.specs.declared.paths.View.TheVariants.{Overview, Hall, HallRound, Round}
 use Rattle.board_views.specs.declared.paths.View.TheVariants.{Table, RoundAt, TableAt, Person}
 use Rattle.board_views.specs.declared.paths.View.TheVariants.{Podiums, People, Log, Style, Script}
-use Rattle.board_views.specs.Frame.{framed}
 use Rattle.board_views.specs.Looks.{style, script}
-use Rattle.board_views.specs.Paths.{StandsAt}
 use Rattle.board_views.specs.Rounds.{accepted_at, accepted_in, all_rounds, table_at}
 
 -- ---- bodies
@@ -33,8 +29,7 @@ all_page class shows title log =
 -- a round under its name, where it was opened
 unfoldable pub round_page_of : List ℕ → List ℕ → List Command → ℕ → RoundId → Option (List ℕ)
 round_page_of class title cs position id =
-    option_map
-    (λ r. framed class (round_words id r.0.advance) title [] (section cs position id))
+    option_map (λ r. framed class (round_words id r.0.advance) title [] (section cs position id))
     (round_of cs id.event id.round)
 
 -- a round after the first entries of a log, where there are this many and it was opened in them
@@ -46,10 +41,8 @@ round_page class title log position id =
 -- a competitor in all rounds under the name, where the number is registered
 unfoldable pub person_page : List ℕ → List Entry → ℕ → Option (List ℕ)
 person_page title log number =
-    option_map
-    (λ name. framed (codes "one") (escaped name) title []
-    (person_of (accepted_in log) (length log) number all_rounds))
-    (name_of (accepted_in log) number)
+    option_map (λ name. framed (codes "one") (escaped name) title []
+    (person_of (accepted_in log) (length log) number all_rounds)) (name_of (accepted_in log) number)
 
 -- the podiums of those of these rounds that are finals
 unfoldable pub podiums : List Command → ℕ → List RoundId → List ℕ
@@ -87,19 +80,12 @@ body title log Script = Some script
 -- ---- what is said of a body
 
 abbrev pub kind_of : View → List ℕ
-kind_of Overview = codes "text/html; charset=utf-8"
-kind_of Hall = codes "text/html; charset=utf-8"
-kind_of (HallRound id) = codes "text/html; charset=utf-8"
-kind_of (Round id) = codes "text/html; charset=utf-8"
 kind_of (Table id) = codes "text/csv; charset=utf-8"
-kind_of (RoundAt position id) = codes "text/html; charset=utf-8"
 kind_of (TableAt position id) = codes "text/csv; charset=utf-8"
-kind_of (Person number) = codes "text/html; charset=utf-8"
-kind_of Podiums = codes "text/html; charset=utf-8"
-kind_of People = codes "text/html; charset=utf-8"
 kind_of Log = codes "text/plain; charset=utf-8"
 kind_of Style = codes "text/css; charset=utf-8"
 kind_of Script = codes "text/javascript; charset=utf-8"
+kind_of _ = codes "text/html; charset=utf-8"
 
 -- what is at a position of the log never changes; of all else a browser asks each time whether it
 -- has changed

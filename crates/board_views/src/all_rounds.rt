@@ -2,8 +2,7 @@
 
 ghost use Rattle.std.specs.Prelude.{◌≡◌, ◌++◌, OnOk, IfOk, flat_map};
 ghost use Rattle.board_rounds.specs.Rounds.{link, section};
-ghost use Rattle.board_views.specs.Rounds.{all_rounds, rounds_of};
-ghost use Rattle.board_views.specs.Views.{podiums};
+ghost use Rattle.board_views.specs.{Rounds.all_rounds, Rounds.rounds_of, Views.podiums};
 
 use acceptor::NoMemory;
 use board_rounds::{push_link, push_podium, push_round};
@@ -26,8 +25,7 @@ fn push_rounds_of(rounds: &mut Vec<RoundId>, event: Event) -> Result<(), NoMemor
 
 /// Adds the rounds that these events may have.
 fn push_rounds_of_each(rounds: &mut Vec<RoundId>, events: &[Event]) -> Result<(), NoMemory>
-    ensures { OnOk result (rounds.new.items ≡ rounds.old.items
-        ++ flat_map rounds_of events.now) }
+    ensures { OnOk result (rounds.new.items ≡ rounds.old.items ++ flat_map rounds_of events.now) }
 {
     for event in events {
         push_rounds_of(rounds, *event)?;
@@ -46,8 +44,7 @@ pub(crate) fn all_rounds(alloc: Global) -> Result<Vec<RoundId>, NoMemory>
 
 /// Links to those of these rounds that were opened.
 pub(crate) fn links_of(alloc: Global, meet: &Meet, rounds: &[RoundId]) -> Result<Vec<u8>, NoMemory>
-    ensures { IfOk result
-        (λ text. text.items ≡ flat_map (link meet.now.accepted) rounds.now) }
+    ensures { IfOk result (λ text. text.items ≡ flat_map (link meet.now.accepted) rounds.now) }
 {
     let mut text = Vec::new(alloc);
     for id in rounds {
@@ -82,8 +79,7 @@ pub(crate) fn podiums_of(
     position: u32,
     rounds: &[RoundId],
 ) -> Result<Vec<u8>, NoMemory>
-    ensures { IfOk result
-        (λ text. text.items ≡ podiums meet.now.accepted position rounds.now) }
+    ensures { IfOk result (λ text. text.items ≡ podiums meet.now.accepted position rounds.now) }
 {
     let line = b"<p class=\"told\">The first three of each final.</p>\n";
     let mut text = Vec::from_slice(alloc, line)?;

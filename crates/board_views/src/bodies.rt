@@ -1,7 +1,6 @@
 //! The bodies of the views.
 
 ghost use Rattle.std.specs.Prelude.{◌≡◌, IfOk, option_map};
-ghost use Rattle.markup.specs.board_page.Escaped.{escaped};
 ghost use Rattle.round_words.specs.Words.{round_words};
 ghost use Rattle.archive.specs.Archive.{archive_text};
 ghost use Rattle.board_views.specs.Views.{all_page, body, people_page, person_page, podiums_page};
@@ -18,7 +17,7 @@ use archive::write_log;
 use board_rounds::{push_people, push_person, push_round};
 use commands::Meet;
 use formats::Advance;
-use markup::board_page::push_escaped;
+use markup::Piece::{Html, Text};
 use mirror::Mirror;
 use round_words::push_round_words;
 use std::alloc::{AllocError, Global};
@@ -33,15 +32,6 @@ fn words_of(alloc: Global, id: RoundId, advance: Advance) -> Result<Vec<u8>, NoM
     Ok(words)
 }
 
-/// A text so that HTML reads it as it is.
-fn escaped(alloc: Global, text: &[u8]) -> Result<Vec<u8>, NoMemory>
-    ensures { IfOk result (λ made. made.items ≡ escaped text.now) }
-{
-    let mut made = Vec::new(alloc);
-    push_escaped(&mut made, text)?;
-    Ok(made)
-}
-
 /// The page of all rounds, under a class of the style and a name.
 #[tactic(auto, unfolding(crate::specs::Views::all_page))]
 fn all_page(
@@ -51,14 +41,13 @@ fn all_page(
     shows: &[u8],
     title: &[u8],
 ) -> Result<Vec<u8>, NoMemory>
-    ensures { IfOk result
-        (λ page. page.items ≡ all_page class.now shows.now title.now mirror.now) }
+    ensures { IfOk result (λ page. page.items ≡ all_page class.now shows.now title.now mirror.now) }
 {
     let rounds = all_rounds(alloc)?;
     let meet = mirror.meet();
     let links = links_of(alloc, meet, &rounds)?;
     let sections = sections_of(alloc, meet, mirror.len(), &rounds)?;
-    page_of(alloc, class, shows, title, &links, &sections)
+    page_of(alloc, class, Html(shows), title, &links, &sections)
 }
 
 /// The page of a round of a competition at a position, under a class of the style; none where it
@@ -81,7 +70,7 @@ fn round_page_of(
     let words = words_of(alloc, id, settings.advance)?;
     let mut section = Vec::new(alloc);
     push_round(&mut section, meet, position, id)?;
-    let page = page_of(alloc, class, &words, title, b"", &section)?;
+    let page = page_of(alloc, class, Html(&words), title, b"", &section)?;
     Ok(Some(page))
 }
 
@@ -124,11 +113,10 @@ fn person_page(
     let Some(name) = meet.name(number) else {
         return Ok(None);
     };
-    let name = escaped(alloc, name)?;
     let rounds = all_rounds(alloc)?;
     let mut person = Vec::new(alloc);
     push_person(&mut person, meet, mirror.len(), number, &rounds)?;
-    let page = page_of(alloc, b"one", &name, title, b"", &person)?;
+    let page = page_of(alloc, b"one", Text(name), title, b"", &person)?;
     Ok(Some(page))
 }
 
@@ -139,7 +127,7 @@ fn podiums_page(alloc: Global, mirror: &Mirror, title: &[u8]) -> Result<Vec<u8>,
 {
     let rounds = all_rounds(alloc)?;
     let podiums = podiums_of(alloc, mirror.meet(), mirror.len(), &rounds)?;
-    page_of(alloc, b"one", b"Podiums", title, b"", &podiums)
+    page_of(alloc, b"one", Html(b"Podiums"), title, b"", &podiums)
 }
 
 /// The page of all competitors.
@@ -149,7 +137,7 @@ fn people_page(alloc: Global, mirror: &Mirror, title: &[u8]) -> Result<Vec<u8>, 
 {
     let mut people = Vec::new(alloc);
     push_people(&mut people, mirror.meet(), mirror.len())?;
-    page_of(alloc, b"one", b"Competitors", title, b"", &people)
+    page_of(alloc, b"one", Html(b"Competitors"), title, b"", &people)
 }
 
 /// The archive of the log.

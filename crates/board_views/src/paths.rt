@@ -71,8 +71,7 @@ fn table_of(name: &[u8]) -> Option<RoundId>
 /// What is at a path that has no number.
 fn fixed(path: &[u8]) -> Option<View>
     ensures some { IfSome result (λ view. StandsAt view path.now) }
-    ensures none { result ≡ None
-        → (view : View) → IsFixed view → ¬ (StandsAt view path.now) }
+    ensures none { result ≡ None → (view : View) → IsFixed view → ¬ (StandsAt view path.now) }
 {
     if path == b"/".as_slice() {
         Some(View::Overview)
@@ -96,8 +95,7 @@ fn fixed(path: &[u8]) -> Option<View>
 /// The round that a projector shows at a path.
 fn hall_round(path: &[u8]) -> Option<RoundId>
     ensures some { IfSome result (λ id. StandsAt (View.HallRound id) path.now) }
-    ensures none { result ≡ None
-        → (id : RoundId) → ¬ (StandsAt (View.HallRound id) path.now) }
+    ensures none { result ≡ None → (id : RoundId) → ¬ (StandsAt (View.HallRound id) path.now) }
 {
     round_of(path.strip_prefix(b"/hall/".as_slice())?)
 }
@@ -121,8 +119,7 @@ fn table_round(path: &[u8]) -> Option<RoundId>
 /// The competitor whose rounds are at a path.
 fn person(path: &[u8]) -> Option<u16>
     ensures some { IfSome result (λ number. StandsAt (View.Person number) path.now) }
-    ensures none { result ≡ None
-        → (number : ℕ) → ¬ (StandsAt (View.Person number) path.now) }
+    ensures none { result ≡ None → (number : ℕ) → ¬ (StandsAt (View.Person number) path.now) }
 {
     let number = path.strip_prefix(b"/person/".as_slice())?;
     let number = number_between(1, LAST_NUMBER, number)?;
@@ -170,8 +167,7 @@ fn past_round(path: &[u8]) -> Option<View>
 /// What is at a path that names a round or a competitor.
 fn numbered(path: &[u8]) -> Option<View>
     ensures some { IfSome result (λ view. StandsAt view path.now) }
-    ensures none { result ≡ None
-        → (view : View) → ¬ (IsFixed view) → ¬ (StandsAt view path.now) }
+    ensures none { result ≡ None → (view : View) → ¬ (IsFixed view) → ¬ (StandsAt view path.now) }
 {
     if let Some(id) = phone_round(path) {
         return Some(View::Round(id));

@@ -1,22 +1,17 @@
 -- The command that a form asks for.
 use Rattle.std.proofs.Common.{◌≡◌, ℕ, ◌≤◌, Bool, true, List, [], ◌∷◌, ◌++◌, length, drop, Option}
 use Rattle.std.proofs.Common.{Some, refl, sym, ap, ◌∙◌, subst}
-use Rattle.std.specs.Prelude.{slice_get}
-use Rattle.std.proofs.lemmas.List.{append-nil, drop_all}
-use Rattle.texts.specs.declared.command.Command.{Command}
-use Rattle.texts.specs.declared.table.FieldKind.{FieldKind}
-use Rattle.texts.specs.declared.table.FieldKind.TheVariants as kind
-use Rattle.texts.specs.declared.table.Tag.{Tag}
-use Rattle.texts.specs.declared.table.Tag.TheVariants as tag
-use Rattle.texts.specs.declared.value.FieldValue.{FieldValue}
-use Rattle.texts.specs.declared.value.FieldValue.TheVariants as value
-use Rattle.texts.specs.Parts.{Parts, made_of, parts}
-use Rattle.texts.specs.Spelling.{words_by}
+use Rattle.std.{specs.Prelude.slice_get, proofs.lemmas.List.append-nil, proofs.lemmas.List.drop_all}
+use Rattle.texts.specs.declared.{command.Command.Command, value.FieldValue.FieldValue}
+use Rattle.texts.specs.declared.table.{FieldKind.FieldKind, Tag.Tag}
+use Rattle.texts.specs.{Parts.Parts, Parts.made_of, Parts.parts, Spelling.words_by}
 use Rattle.texts.specs.Table.{TheRow, fields_in, row_named, row_of, rows}
-use Rattle.texts.proofs.Rows.{named_row}
-use Rattle.texts.proofs.Words.{IsMade}
+use Rattle.texts.proofs.{Rows.named_row, Words.IsMade}
 use Rattle.card_forms.specs.declared.pairs.Pair.{Pair}
 use Rattle.card_forms.specs.Asking.{HasAll, HasParts, HasValue, HasValues, IsAsked, has_form}
+use Rattle.texts.specs.declared.table.FieldKind.TheVariants as kind
+use Rattle.texts.specs.declared.table.Tag.TheVariants as tag
+use Rattle.texts.specs.declared.value.FieldValue.TheVariants as value
 
 -- ---- values of the kinds of fields
 

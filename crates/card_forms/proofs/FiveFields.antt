@@ -1,15 +1,13 @@
 -- What the five fields of a card say.
-use Rattle.std.proofs.Common.{◌≡◌, ℕ, List, [], ◌∷◌, length, get_or, arith, sym, subst}
-use Rattle.std.proofs.Common.{Result, Ok, IfOk}
-use Rattle.attempts.specs.declared.Unit.{Unit as Measure}
-use Rattle.attempts.specs.declared.Value.{Value}
+use Rattle.std.proofs.Common.{◌≡◌, ℕ, List, [], ◌∷◌, length, get_or, arith, sym, subst, Result, Ok}
+use Rattle.std.proofs.Common.{IfOk}
+use Rattle.attempts.specs.declared.{Unit.Unit as Measure, Value.Value}
 use Rattle.formats.specs.Events.{unit_of}
 use Rattle.scorecard.specs.declared.fault.ScorecardFault.{ScorecardFault as FieldFault}
-use Rattle.card_forms.specs.declared.cards.CardForm.{CardForm}
-use Rattle.card_forms.specs.declared.faults.CardReading.{CardReading}
-use Rattle.card_forms.specs.declared.faults.CardReading.TheVariants as reading
+use Rattle.card_forms.specs.declared.{cards.CardForm.CardForm, faults.CardReading.CardReading}
 use Rattle.card_forms.specs.declared.reading.FieldContent.{FieldContent}
 use Rattle.card_forms.specs.Readings.{AllSay, IsNotRead, IsUnfitAs, Says}
+use Rattle.card_forms.specs.declared.faults.CardReading.TheVariants as reading
 
 -- a list of five, by its items
 five_items : {A : Type 0} (xs : List A) (a b c d e : A) → length xs ≡ 5 → a ≡ get_or xs 0 a
@@ -26,8 +24,7 @@ five_items (p ∷ q ∷ r ∷ s ∷ t ∷ u ∷ xs) a b c d e len ha hb hc hd he
 -- what a field says that was read
 pub said : (unit : Measure) (was : List Value) (filled : List (List ℕ)) (place : ℕ)
     (text shown : List ℕ) (r : Result FieldContent FieldFault) (it : FieldContent) → shown ≡ text
-    → r ≡ Ok it
-    → IfOk r (Says unit was filled place shown) → Says unit was filled place text it
+    → r ≡ Ok it → IfOk r (Says unit was filled place shown) → Says unit was filled place text it
 said unit was filled place text shown r it same is says =
     subst (λ (t : List ℕ). Says unit was filled place t it) same
     (subst (λ (q : Result FieldContent FieldFault). IfOk q (Says unit was filled place shown)) is

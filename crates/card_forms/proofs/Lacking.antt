@@ -1,39 +1,30 @@
 -- Fields of a command's form that have no value.
-use Rattle.std.proofs.Common.{◌≡◌, ◌∙◌, ℕ, ◌≤◌, ◌==◌, ◌&&◌, Bool, true, false, List}
-use Rattle.std.proofs.Common.{if◌then◌else◌, codes, inl, inr, nat_le, Option, None}
-use Rattle.std.proofs.Common.{Some, Result, Ok, Err, ap, refl, subst, sym}
-use Rattle.std.specs.Prelude.{IfErr, IfSome, length}
-use Rattle.std.specs.Option.{ok_or}
+use Rattle.std.proofs.Common.{◌≡◌, ◌∙◌, ℕ, ◌≤◌, ◌==◌, ◌&&◌, Bool, true, false, List, if◌then◌else◌}
+use Rattle.std.proofs.Common.{codes, inl, inr, nat_le, Option, None, Some, Result, Ok, Err, ap}
+use Rattle.std.proofs.Common.{refl, subst, sym}
+use Rattle.std.specs.{Prelude.IfErr, Prelude.IfSome, Prelude.length, Option.ok_or}
 use Rattle.std.proofs.lemmas.Bool.{eqb-true, le-leb, leb-true}
-use Rattle.attempts.specs.declared.Unit.TheVariants as measure
-use Rattle.cube.specs.declared.moves.Move.{Move}
-use Rattle.cube.specs.declared.notation.reading.NotationFault.{NotationFault}
-use Rattle.cube.specs.declared.notation.reading.NotationFault.TheVariants as read
+use Rattle.cube.specs.declared.{moves.Move.Move, notation.reading.NotationFault.NotationFault}
 use Rattle.cube.specs.notation.Notation.{IsUnlessNoMemory, Spells as SpellsMoves}
 use Rattle.formats.specs.declared.events.Event.{Event}
-use Rattle.scorecard.specs.declared.fault.ScorecardFault.{ScorecardFault}
-use Rattle.scorecard.specs.Reading.{IsReadAs}
+use Rattle.scorecard.specs.{declared.fault.ScorecardFault.ScorecardFault, Reading.IsReadAs}
 use Rattle.scorecard.specs.Spelling.{Spells}
-use Rattle.texts.specs.declared.command.Entered.{Entered}
+use Rattle.texts.specs.declared.{command.Entered.Entered, table.FieldKind.FieldKind}
+use Rattle.card_forms.specs.declared.{command_faults.FieldFault.FieldFault, pairs.Pair.Pair}
+use Rattle.card_forms.specs.Asking.{HasLimit, HasMoves, IsClock, field as value_in, is_none}
+use Rattle.card_forms.specs.Faults.{IsFirstLacking, IsSaid, Lacks, LacksAs, Said, clock_of}
+use Rattle.card_forms.specs.Faults.{event_by, fault_of, moves_fault, said_of_event}
+use Rattle.attempts.specs.declared.Unit.TheVariants as measure
+use Rattle.cube.specs.declared.notation.reading.NotationFault.TheVariants as read
 use Rattle.texts.specs.declared.command.Entered.TheVariants as entered
-use Rattle.texts.specs.declared.table.FieldKind.{FieldKind}
 use Rattle.card_forms.specs.declared.command_faults.Field.TheVariants as field
-use Rattle.card_forms.specs.declared.command_faults.FieldFault.{FieldFault}
 use Rattle.card_forms.specs.declared.command_faults.FieldFault.TheVariants as at
 use Rattle.card_forms.specs.declared.command_faults.FieldError.TheVariants as wrong
-use Rattle.card_forms.specs.declared.pairs.Pair.{Pair}
-use Rattle.card_forms.specs.Asking.{HasLimit, HasMoves}
-use Rattle.card_forms.specs.Asking.{IsClock}
-use Rattle.card_forms.specs.Asking.{field as value_in, is_none}
-use Rattle.card_forms.specs.Faults.{IsFirstLacking, IsSaid, Lacks, LacksAs, Said}
-use Rattle.card_forms.specs.Faults.{clock_of, event_by, fault_of, moves_fault}
-use Rattle.card_forms.specs.Faults.{said_of_event}
 
 -- ---- times
 
 pub clock_value : (text : List ℕ) (r : Result Entered ScorecardFault)
-    → ((x : Entered) → r ≡ Ok x → Spells measure.Time text x)
-    → IfSome (clock_of r) (IsClock text)
+    → ((x : Entered) → r ≡ Ok x → Spells measure.Time text x) → IfSome (clock_of r) (IsClock text)
 clock_value text (Ok (entered.Time time penalties)) found =
     by (penalties == 0) refl (nat_le time 360000) refl
   where
@@ -67,8 +58,7 @@ pub no_number : (o it : Option ℕ) → o ≡ it → o ≡ None → (n : ℕ) �
 no_number o it same none n is = absurd (let e : None ≡ Some n = sym none ∙ same ∙ is in cc)
 
 pub ok_or_lacks : (T : Type 0) (o it : Option T) → o ≡ it → (f g : FieldFault) → f ≡ g
-    → (r : Result T FieldFault) → r ≡ ok_or o f
-    → IfErr r (λ why. (why ≡ g) × (it ≡ None))
+    → (r : Result T FieldFault) → r ≡ ok_or o f → IfErr r (λ why. (why ≡ g) × (it ≡ None))
 ok_or_lacks T None it of f g same r is =
     subst (λ (s : Result T FieldFault). IfErr s (λ why. (why ≡ g) × (it ≡ None))) (sym is)
     (same, sym of)
@@ -79,10 +69,8 @@ pub event_lacks : (pairs : List Pair) (b : Bool) → b ≡ false → (r : Result
     → IfErr r (λ why. (why ≡ fault_of (said_of_event false)) × (event_by false pairs ≡ None))
     → IfErr r (λ why. (why ≡ fault_of (said_of_event b)) × (event_by b pairs ≡ None))
 event_lacks pairs b is r lacks =
-    subst
-    (λ (c : Bool).
-    IfErr r (λ why. (why ≡ fault_of (said_of_event c)) × (event_by c pairs ≡ None)))
-    (sym is) lacks
+    subst (λ (c : Bool).
+    IfErr r (λ why. (why ≡ fault_of (said_of_event c)) × (event_by c pairs ≡ None))) (sym is) lacks
 
 module _ (pairs : List Pair) (text : List ℕ) (same : text ≡ value_in (codes "moves") pairs)
     (r : Result (List Move) NotationFault)

@@ -3,22 +3,14 @@ use Rattle.std.proofs.Common.{◌≡◌, ℕ, ◌+◌, ◌≤◌, Bool, true, fa
 use Rattle.std.proofs.Common.{[], ◌∷◌, ◌++◌, length, codes, Option, Some, None, refl, sym, ap, ◌∙◌}
 use Rattle.std.proofs.Common.{arith, append_assoc, bytes_eq, length-append}
 use Rattle.std.proofs.lemmas.Bool.{false≢true}
-use Rattle.std.proofs.lemmas.Bool.Decides.{nat_tests}
-use Rattle.std.proofs.lemmas.List.{append-nil}
-use Rattle.std.proofs.lemmas.List.Folds.{list_all-append}
-use Rattle.texts.proofs.Numerals.{bytes_eq-same}
-use Rattle.texts.specs.declared.command.Command.{Command}
-use Rattle.texts.specs.declared.command.RemarkedCommand.{RemarkedCommand}
-use Rattle.texts.specs.Fields.{cut}
-use Rattle.texts.specs.Names.{is_remark}
-use Rattle.texts.specs.Parts.{parts}
-use Rattle.texts.specs.Reading.{command_of}
+use Rattle.std.proofs.lemmas.{Bool.Decides.nat_tests, List.append-nil, List.Folds.list_all-append}
+use Rattle.texts.proofs.{Numerals.bytes_eq-same, Cuts.and-true, Remarks.cut_remark_found}
+use Rattle.texts.specs.declared.command.{Command.Command, RemarkedCommand.RemarkedCommand}
+use Rattle.texts.specs.{Fields.cut, Names.is_remark, Parts.parts, Reading.command_of}
 use Rattle.texts.specs.Spelling.{IsFitTold, spelling, told_spelling, with_remark_text}
 use Rattle.texts.specs.Table.{row_named, row_of, takes_remark_in}
-use Rattle.texts.proofs.Cuts.{and-true, behind, cut-behind, lacks}
-use Rattle.texts.proofs.Remarks.{cut_remark_found}
-use Rattle.texts.proofs.Rows.{left_of, left_text, row_right, text_is}
-use Rattle.texts.proofs.Words.{spelled_found, spelled_only}
+use Rattle.texts.proofs.{Cuts.behind, Cuts.cut-behind, Words.spelled_found, Words.spelled_only}
+use Rattle.texts.proofs.{Cuts.lacks, Rows.left_of, Rows.left_text, Rows.row_right, Rows.text_is}
 use Rattle.card_forms.specs.Remarks.{IsNoted, NotesTheCommand, before_remark, is_same_but_remark}
 use Rattle.card_forms.specs.Remarks.{is_plain, may_note, noted, takes_remark}
 
@@ -32,13 +24,11 @@ with_more : (word : List ℕ) (left : Option (List ℕ)) (more : List ℕ)
 with_more word None more = rw append-nil refl
 with_more word (Some left) more = append_assoc word (32 ∷ left) (32 ∷ more)
 
-spelled_word : (c : Command)
-    → spelling c
+spelled_word : (c : Command) → spelling c
     ≡ (row_right (parts c).0).row.word ++ behind 32 (left_of (parts c).1)
 spelled_word c =
     let it = row_right (parts c).0 in
-    rw it.is
-    (text_is it.row.word (parts c).1 ∙ ap (λ y. it.row.word ++ y) (left_text (parts c).1))
+    rw it.is (text_is it.row.word (parts c).1 ∙ ap (λ y. it.row.word ++ y) (left_text (parts c).1))
 
 with_mark : (text remark : List ℕ)
     → with_remark_text text (Some remark) ≡ text ++ 32 ∷ 35 ∷ 32 ∷ remark
@@ -63,8 +53,7 @@ word_of c (Some remark) =
     (cut-behind 32 it.row.word (Some (and_more (left_of (parts c).1) (35 ∷ 32 ∷ remark))) it.word)
 
 takes_of : (c : Command) (remark : Option (List ℕ))
-    → takes_remark (with_remark_text (spelling c) remark)
-    ≡ takes_remark_in (row_of (parts c).0)
+    → takes_remark (with_remark_text (spelling c) remark) ≡ takes_remark_in (row_of (parts c).0)
 takes_of c remark =
     let it = row_right (parts c).0 in
     ap (λ (w : List ℕ). takes_remark_in (row_named w)) (word_of c remark)
@@ -77,8 +66,7 @@ pub before_is : (c : Command) (remark : Option (List ℕ))
 before_is c remark takes plain =
     let it : takes_remark (with_remark_text (spelling c) remark) ≡ true =
     takes_of c remark ∙ takes in
-    rw it
-    (ap (λ (p : List ℕ × Option (List ℕ)). p.0) (cut_remark_found (spelling c) remark plain))
+    rw it (ap (λ (p : List ℕ × Option (List ℕ)). p.0) (cut_remark_found (spelling c) remark plain))
 
 -- a text without a number sign has no remark
 no_remark : (c : Command) (remark : Option (List ℕ))
@@ -88,8 +76,7 @@ no_remark c (Some r) h =
     let apart = list_all-append (λ b. not (b == 35)) (spelling c) (32 ∷ 35 ∷ 32 ∷ r) in
     let plain : lacks 35 (spelling c ++ 32 ∷ 35 ∷ 32 ∷ r) ≡ true =
     ap (lacks 35) (sym (with_mark (spelling c) r)) ∙ h in
-    absurd
-    (false≢true
+    absurd (false≢true
     (and-true (lacks 35 (spelling c)) (lacks 35 (32 ∷ 35 ∷ 32 ∷ r)) (sym apart ∙ plain)).1)
 
 all_three : (a b c : Bool) → (a && b && c) ≡ true → (a ≡ true) × (b ≡ true) × (c ≡ true)

@@ -1,46 +1,27 @@
 -- What is said of a form that asks for no command.
-use Rattle.std.proofs.Common.{◌≡◌, ◌∙◌, ℕ, Bool, true, false, List, Option, None, Some, Result}
-use Rattle.std.proofs.Common.{Ok, Err, ap, codes, inl, inr, refl, subst, sym}
+use Rattle.std.proofs.Common.{◌≡◌, ◌∙◌, ℕ, Bool, true, false, List, Option, None, Some, Result, Ok}
+use Rattle.std.proofs.Common.{Err, ap, codes, inr, refl, subst, sym}
 use Rattle.std.specs.Prelude.{IfErr, IfOk, IsTrue}
-use Rattle.texts.specs.declared.command.Command.{Command}
-use Rattle.texts.specs.declared.table.FieldKind.{FieldKind}
-use Rattle.texts.specs.declared.value.FieldValue.{FieldValue}
-use Rattle.texts.specs.Parts.{made_of}
+use Rattle.texts.specs.declared.{command.Command.Command, table.FieldKind.FieldKind}
+use Rattle.texts.specs.{declared.value.FieldValue.FieldValue, Parts.made_of}
 use Rattle.texts.specs.Table.{TheRow, row_named}
-use Rattle.card_forms.specs.declared.asking.UncheckedCommand.{UncheckedCommand}
-use Rattle.card_forms.specs.declared.asking.CommandForm.{CommandForm}
+use Rattle.card_forms.specs.declared.{asking.UncheckedCommand.UncheckedCommand, pairs.Pair.Pair}
+use Rattle.card_forms.specs.{declared.asking.CommandForm.CommandForm, Asking.has_form}
 use Rattle.card_forms.specs.declared.command_faults.CommandFormFault.{CommandFormFault}
+use Rattle.card_forms.specs.{declared.command_faults.FieldFault.FieldFault, Faults.may_be_asked}
+use Rattle.card_forms.specs.Asking.{AsksBy, FieldsAsk, HasAll, WordAsks, field as value_in}
+use Rattle.card_forms.specs.Faults.{Blames, IsFault, IsNoCommand, IsSaid, IsWrong, IsWrongBy}
+use Rattle.card_forms.specs.Faults.{IsWrongIf, IsWrongRow, Said, blamed, blamed_in, form_fault}
+use Rattle.card_forms.proofs.{Asked.always_made, Lacking.said_by}
 use Rattle.card_forms.specs.declared.command_faults.Field.TheVariants as field
-use Rattle.card_forms.specs.declared.command_faults.FieldFault.{FieldFault}
 use Rattle.card_forms.specs.declared.command_faults.FieldFault.TheVariants as at
 use Rattle.card_forms.specs.declared.command_faults.FieldError.TheVariants as wrong
-use Rattle.card_forms.specs.declared.pairs.Pair.{Pair}
-use Rattle.card_forms.specs.Asking.{AsksBy, FieldsAsk, HasAll, WordAsks}
-use Rattle.card_forms.specs.Asking.{field as value_in, has_form, has_round}
-use Rattle.card_forms.specs.Faults.{Blames, IsFault, IsFirstLacking, IsNoCommand, IsSaid, IsWrong}
-use Rattle.card_forms.specs.Faults.{IsWrongBy, IsWrongIf, IsWrongRow, Said, blamed, blamed_in}
-use Rattle.card_forms.specs.Faults.{form_fault, may_be_asked}
-use Rattle.card_forms.proofs.Asked.{always_made}
-use Rattle.card_forms.proofs.Lacking.{said_by}
 
 abbrev pub NoForm : Said
 NoForm = (field.Command, wrong.NoSuchCommand)
 
 module _ (pairs : List Pair) where
   -- ---- a command, by its row
-
-  pub lacking_row : (row : TheRow) → has_form row.tag ≡ true → (f : FieldFault)
-      → IsSaid (IsFirstLacking (has_round row.fields) pairs row.fields) f
-      → IsSaid (IsWrongIf (has_form row.tag) pairs row.fields) f
-  lacking_row row form f is =
-      subst (λ (b : Bool). IsSaid (IsWrongIf b pairs row.fields) f) (sym form)
-      (said_by (IsFirstLacking (has_round row.fields) pairs row.fields)
-      (IsWrongIf true pairs row.fields) (λ it first. inl first) f is)
-
-  pub formless_row : (row : TheRow) → has_form row.tag ≡ false
-      → IsWrongIf (has_form row.tag) pairs row.fields NoForm
-  formless_row row form =
-      subst (λ (b : Bool). IsWrongIf b pairs row.fields NoForm) (sym form) refl
 
   pub unmade_row : (word : List ℕ) (row : TheRow) (vs : List FieldValue)
       → row_named word ≡ Some row → HasAll pairs row.fields vs → made_of (row.tag, vs) ≡ None

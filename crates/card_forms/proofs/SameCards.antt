@@ -1,26 +1,19 @@
 -- Two texts that spell cards are the same but for a remark exactly where they spell the same card.
-use Rattle.std.proofs.Common.{◌≡◌, ◌∙◌, ℕ, true, List, Option, None, Some, Result, Ok, Err}
-use Rattle.std.proofs.Common.{ap, codes, refl, subst, sym}
-use Rattle.std.specs.Prelude.{unwrap_or}
-use Rattle.std.proofs.lemmas.Slice.Eq.{bytes_eq-Decides}
-use Rattle.texts.specs.declared.command.CardEntry.{CardEntry}
-use Rattle.texts.specs.declared.command.Command.{Command}
-use Rattle.texts.specs.declared.command.Command.TheVariants.{Card}
-use Rattle.texts.specs.declared.command.RemarkedCommand.{RemarkedCommand}
-use Rattle.texts.specs.declared.reading.CommandFault.{CommandFault}
-use Rattle.texts.specs.Parts.{card_values, parts}
-use Rattle.texts.specs.Reading.{command_of}
+use Rattle.std.proofs.Common.{◌≡◌, ◌∙◌, ℕ, true, List, Option, None, Some, Result, Ok, Err, ap}
+use Rattle.std.proofs.Common.{codes, refl, subst, sym}
+use Rattle.std.{specs.Prelude.unwrap_or, proofs.lemmas.Slice.Eq.bytes_eq-Decides}
+use Rattle.texts.specs.declared.command.{CardEntry.CardEntry, RemarkedCommand.RemarkedCommand}
+use Rattle.texts.specs.declared.command.Command.{Command, TheVariants.Card}
+use Rattle.texts.specs.{declared.reading.CommandFault.CommandFault, Reading.command_of}
+use Rattle.texts.specs.{Parts.card_values, Parts.parts, Spelling.with_remark_text}
 use Rattle.texts.specs.Spelling.{AreInRange, IsFit, IsFitTold, spelling, values_text}
-use Rattle.texts.specs.Spelling.{with_remark_text}
-use Rattle.texts.specs.declared.table.Tag.TheVariants as tag
 use Rattle.texts.specs.Table.{fields_in, row_of, rows, takes_remark_in}
 use Rattle.texts.proofs.Bytes.{is_plain, passes_lack}
-use Rattle.texts.proofs.Cuts.{lacks}
-use Rattle.texts.proofs.Rows.{text_is, values_plain}
+use Rattle.texts.proofs.{Cuts.lacks, Rows.text_is, Rows.values_plain}
 use Rattle.texts.proofs.Words.{spelled_once, spelled_only, spelling_short}
-use Rattle.card_forms.specs.Remarks.{before_remark}
-use Rattle.card_forms.proofs.Notes.{before_is}
+use Rattle.card_forms.{specs.Remarks.before_remark, proofs.Notes.before_is}
 use Rattle.card_forms.specs.Entries.{SameWhereTheCardIs, card_in, card_of, card_told}
+use Rattle.texts.specs.declared.table.Tag.TheVariants as tag
 
 pub card_is_of : (command : Command) (card : CardEntry) → card_of command ≡ Some card
     → command ≡ Card card

@@ -1,37 +1,27 @@
 -- What a command's form asks for (the project's own).
 use Rattle.std.specs.Prelude.{◌≡◌, ℕ, ◌==◌, Bool, true, false, ◌&&◌, ◌||◌, ◌≤◌, codes, bytes_eq}
 use Rattle.std.specs.Prelude.{IsTrue, List, [], ◌∷◌, length, slice_get, Option, None, Some}
-use Rattle.std.specs.List.{list_any}
-use Rattle.std.specs.Option.{option_map}
+use Rattle.std.specs.{List.list_any, Option.option_map}
 use denote.Enum.Bare.{sameb}
 use Rattle.attempts.specs.declared.Unit.{Unit as Measure}
-use Rattle.attempts.specs.declared.Unit.TheVariants as measure
 use Rattle.formats.specs.declared.advance.Advance.{Advance}
 use Rattle.formats.specs.declared.advance.Advance.TheVariants.{Final, Percent, Top}
-use Rattle.formats.specs.declared.events.Event.{Event}
-use Rattle.formats.specs.declared.events.Format.{Format}
+use Rattle.formats.specs.declared.events.{Event.Event, Format.Format}
 use Rattle.formats.specs.Events.{event_of_name, format_named, unit_of}
-use Rattle.cube.specs.declared.moves.Move.{Move}
-use Rattle.cube.specs.notation.Notation.{Spells as SpellsMoves}
-use Rattle.texts.specs.declared.command.Command.{Command}
-use Rattle.texts.specs.declared.command.Entered.TheVariants as entered
-use Rattle.texts.specs.declared.command.RemarkedCommand.{RemarkedCommand}
-use Rattle.texts.specs.declared.command.RoundId.{RoundId}
-use Rattle.texts.specs.declared.table.FieldKind.{FieldKind}
-use Rattle.texts.specs.declared.table.FieldKind.TheVariants as kind
-use Rattle.texts.specs.declared.table.Tag.{Tag}
-use Rattle.texts.specs.declared.value.FieldValue.{FieldValue}
-use Rattle.texts.specs.declared.value.FieldValue.TheVariants as value
-use Rattle.texts.specs.contracts.table.FieldKind.{the_type as kinds}
-use Rattle.texts.specs.Fields.{number_between}
-use Rattle.texts.specs.Parts.{Parts, parts}
+use Rattle.cube.specs.{declared.moves.Move.Move, notation.Notation.Spells as SpellsMoves}
+use Rattle.texts.specs.declared.command.{Command.Command, RemarkedCommand.RemarkedCommand}
+use Rattle.texts.specs.declared.{command.RoundId.RoundId, value.FieldValue.FieldValue}
+use Rattle.texts.specs.declared.table.{FieldKind.FieldKind, Tag.Tag}
+use Rattle.texts.specs.{contracts.table.FieldKind.the_type as kinds, Fields.number_between}
+use Rattle.texts.specs.{Parts.Parts, Parts.parts, Table.fields_in, Table.row_of, Table.same_tag}
 use Rattle.texts.specs.Spelling.{IsFitTold, spelling, told_spelling, words_of}
-use Rattle.texts.specs.Table.{fields_in, row_of, same_tag}
 use Rattle.scorecard.specs.Spelling.{Spells, trimmed}
-use Rattle.card_forms.specs.declared.asking.TheConstants.{FORMS}
-use Rattle.card_forms.specs.declared.pairs.Pair.{Pair}
-use Rattle.card_forms.specs.Cards.{round_of}
-use Rattle.card_forms.specs.Pairs.{value_of}
+use Rattle.card_forms.specs.declared.{asking.TheConstants.FORMS, pairs.Pair.Pair}
+use Rattle.card_forms.specs.{Cards.round_of, Pairs.value_of}
+use Rattle.attempts.specs.declared.Unit.TheVariants as measure
+use Rattle.texts.specs.declared.command.Entered.TheVariants as entered
+use Rattle.texts.specs.declared.table.FieldKind.TheVariants as kind
+use Rattle.texts.specs.declared.value.FieldValue.TheVariants as value
 
 -- a text is the spelling of a command whose fields are in their ranges, with its remark if it has
 -- one

@@ -1,17 +1,13 @@
 -- The card of a form, as it was typed (the project's own).
-use Rattle.std.specs.Prelude.{ℕ, ◌-◌, ◌^◌, List, [], ◌∷◌, codes, Option, None, Some}
-use Rattle.std.specs.Prelude.{Result, Ok, Err}
-use Rattle.std.specs.Option.{option_map, option_and_then}
+use Rattle.std.specs.Prelude.{ℕ, ◌-◌, ◌^◌, List, [], ◌∷◌, codes, Option, None, Some, Result, Ok}
+use Rattle.std.specs.{Prelude.Err, Option.option_map, Option.option_and_then}
 use Rattle.attempts.specs.declared.Value.{Value}
-use Rattle.formats.specs.declared.events.Event.{Event}
-use Rattle.formats.specs.Events.{event_of_name, last_round}
+use Rattle.formats.specs.{declared.events.Event.Event, Events.event_of_name, Events.last_round}
 use Rattle.texts.specs.declared.command.RoundId.{RoundId}
 use Rattle.texts.specs.Fields.{cut, number_between, round_id, was_of}
-use Rattle.card_forms.specs.declared.pairs.Pair.{Pair}
-use Rattle.card_forms.specs.declared.cards.CardForm.{CardForm}
-use Rattle.card_forms.specs.declared.faults.CardFormFault.{CardFormFault}
+use Rattle.card_forms.specs.declared.{pairs.Pair.Pair, cards.CardForm.CardForm}
+use Rattle.card_forms.specs.{declared.faults.CardFormFault.CardFormFault, Pairs.value_of}
 use Rattle.card_forms.specs.declared.faults.CardFormFault.TheVariants as fault
-use Rattle.card_forms.specs.Pairs.{value_of}
 
 -- an id of a form, as it is sent
 abbrev pub form_id_of : List ℕ → Option ℕ

@@ -1,15 +1,11 @@
 -- The entries of what a form asks for (the project's own).
-use Rattle.std.specs.Prelude.{◌≡◌, ◌↔◌, ℕ, ◌+◌, true, if◌then◌else◌, nat_le, length}
-use Rattle.std.specs.Prelude.{List, [], ◌∷◌, Option, None, Some, Result, Ok, Err}
+use Rattle.std.specs.Prelude.{◌≡◌, ◌↔◌, ℕ, ◌+◌, true, if◌then◌else◌, nat_le, length, List, [], ◌∷◌}
+use Rattle.std.specs.Prelude.{Option, None, Some, Result, Ok, Err}
 use Rattle.acceptor.specs.declared.entry.Entry.{Entry}
-use Rattle.texts.specs.declared.command.CardEntry.{CardEntry}
-use Rattle.texts.specs.declared.command.Command.{Command}
-use Rattle.texts.specs.declared.command.Command.TheVariants.{Card}
-use Rattle.texts.specs.declared.command.RemarkedCommand.{RemarkedCommand}
-use Rattle.texts.specs.declared.reading.CommandFault.{CommandFault}
-use Rattle.texts.specs.Names.{is_remark}
-use Rattle.texts.specs.Reading.{command_of}
-use Rattle.texts.specs.Spelling.{spelling, told_spelling}
+use Rattle.texts.specs.declared.command.{CardEntry.CardEntry, RemarkedCommand.RemarkedCommand}
+use Rattle.texts.specs.declared.command.Command.{Command, TheVariants.Card}
+use Rattle.texts.specs.{declared.reading.CommandFault.CommandFault, Names.is_remark}
+use Rattle.texts.specs.{Reading.command_of, Spelling.spelling, Spelling.told_spelling}
 use Rattle.card_forms.specs.Remarks.{is_same_but_remark}
 
 abbrev pub entry_with : ℕ → List ℕ → Entry

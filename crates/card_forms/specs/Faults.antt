@@ -1,36 +1,28 @@
 -- What is wrong with a command's form, where it asks for no command (the project's own).
 use Rattle.std.specs.Prelude.{◌≡◌, ◌⊎◌, ℕ, ◌==◌, ◌++◌, Bool, true, false, if◌then◌else◌, bytes_eq}
-use Rattle.std.specs.Prelude.{codes, decimal, length, nat_le, nat_lt, ◌&&◌, List, [], ◌∷◌}
-use Rattle.std.specs.Prelude.{IsTrue, Option, None, Some, Result, Ok}
-use Rattle.std.specs.List.{list_any}
-use Rattle.std.specs.Option.{option_map}
+use Rattle.std.specs.Prelude.{codes, decimal, length, nat_le, nat_lt, ◌&&◌, List, [], ◌∷◌, IsTrue}
+use Rattle.std.specs.Prelude.{Option, None, Some, Result, Ok}
+use Rattle.std.specs.{List.list_any, Option.option_map}
 use Rattle.attempts.specs.declared.Unit.{Unit as Measure}
-use Rattle.attempts.specs.declared.Unit.TheVariants as measure
 use Rattle.cube.specs.declared.notation.reading.NotationFault.{NotationFault}
-use Rattle.cube.specs.declared.notation.reading.NotationFault.TheVariants as read
-use Rattle.formats.specs.declared.events.Event.{Event}
-use Rattle.formats.specs.Events.{event_of_name, unit_of}
+use Rattle.formats.specs.{declared.events.Event.Event, Events.event_of_name, Events.unit_of}
 use Rattle.scorecard.specs.declared.fault.ScorecardFault.{ScorecardFault}
-use Rattle.texts.specs.declared.command.Entered.{Entered}
-use Rattle.texts.specs.declared.command.Entered.TheVariants as entered
-use Rattle.texts.specs.declared.table.FieldKind.{FieldKind}
-use Rattle.texts.specs.declared.table.FieldKind.TheVariants as kind
-use Rattle.texts.specs.declared.value.FieldValue.{FieldValue}
-use Rattle.texts.specs.Fields.{number_between}
+use Rattle.texts.specs.declared.{command.Entered.Entered, table.FieldKind.FieldKind}
+use Rattle.texts.specs.{declared.value.FieldValue.FieldValue, Fields.number_between}
 use Rattle.texts.specs.Table.{TheRow, row_named}
-use Rattle.card_forms.specs.declared.command_faults.CommandFormFault.{CommandFormFault}
-use Rattle.card_forms.specs.declared.command_faults.CommandFormFault.TheVariants as form
-use Rattle.card_forms.specs.declared.command_faults.Field.{Field}
-use Rattle.card_forms.specs.declared.command_faults.Field.TheVariants as field
-use Rattle.card_forms.specs.declared.command_faults.FieldFault.{FieldFault}
-use Rattle.card_forms.specs.declared.command_faults.FieldFault.TheVariants as at
-use Rattle.card_forms.specs.declared.command_faults.FieldError.{FieldError}
-use Rattle.card_forms.specs.declared.command_faults.FieldError.TheVariants as wrong
-use Rattle.card_forms.specs.declared.pairs.Pair.{Pair}
+use Rattle.card_forms.specs.declared.command_faults.{CommandFormFault.CommandFormFault, Field.Field}
+use Rattle.card_forms.specs.declared.command_faults.{FieldFault.FieldFault, FieldError.FieldError}
+use Rattle.card_forms.specs.{declared.pairs.Pair.Pair, Cards.form_id_of, Pairs.value_of}
 use Rattle.card_forms.specs.Asking.{FieldsAsk, HasValue, IsCommandText, field as value_in, has_form}
 use Rattle.card_forms.specs.Asking.{has_round, the_round}
-use Rattle.card_forms.specs.Cards.{form_id_of}
-use Rattle.card_forms.specs.Pairs.{value_of}
+use Rattle.attempts.specs.declared.Unit.TheVariants as measure
+use Rattle.cube.specs.declared.notation.reading.NotationFault.TheVariants as read
+use Rattle.texts.specs.declared.command.Entered.TheVariants as entered
+use Rattle.texts.specs.declared.table.FieldKind.TheVariants as kind
+use Rattle.card_forms.specs.declared.command_faults.CommandFormFault.TheVariants as form
+use Rattle.card_forms.specs.declared.command_faults.Field.TheVariants as field
+use Rattle.card_forms.specs.declared.command_faults.FieldFault.TheVariants as at
+use Rattle.card_forms.specs.declared.command_faults.FieldError.TheVariants as wrong
 
 -- ---- in words
 
@@ -158,8 +150,7 @@ IsLacking by_round pairs k it =
 abbrev pub IsFirstLacking : Bool → List Pair → List FieldKind → Said → Type 0
 IsFirstLacking by_round pairs [] it = ⊥
 IsFirstLacking by_round pairs (k ∷ ks) it =
-    IsLacking by_round pairs k it
-    ⊎ (((v : FieldValue) × HasValue by_round pairs k v)
+    IsLacking by_round pairs k it ⊎ (((v : FieldValue) × HasValue by_round pairs k v)
     × IsFirstLacking by_round pairs ks it)
 
 -- ---- a text that is no command

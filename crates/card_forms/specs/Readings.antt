@@ -1,29 +1,22 @@
 -- The fields of a card, read (the project's own).
-use Rattle.std.specs.Prelude.{◌≡◌, ℕ, suc, ◌+◌, ◌==◌, ◌&&◌, if◌then◌else◌, List, [], ◌∷◌}
-use Rattle.std.specs.Prelude.{length, Bool, true, false, not, bytes_eq, drop, flat_map, map, nat_lt}
-use Rattle.std.specs.Prelude.{position, slice_get, unwrap_or}
-use Rattle.std.specs.Prelude.{Option, None, Some, Result, Ok, Err}
+use Rattle.std.specs.Prelude.{◌≡◌, ℕ, suc, ◌+◌, ◌==◌, ◌&&◌, if◌then◌else◌, List, [], ◌∷◌, length}
+use Rattle.std.specs.Prelude.{Bool, true, false, not, bytes_eq, drop, flat_map, map, nat_lt}
+use Rattle.std.specs.Prelude.{position, slice_get, unwrap_or, Option, None, Some, Result, Ok, Err}
 use Rattle.std.specs.List.{list_all, list_any}
 use Rattle.std.specs.Option.{ok_or, option_and_then, option_map}
-use Rattle.attempts.specs.Texts.{value_text}
-use Rattle.attempts.specs.declared.Unit.{Unit as Measure}
-use Rattle.attempts.specs.declared.Value.{Value}
+use Rattle.attempts.specs.{Texts.value_text, declared.Unit.Unit as Measure, declared.Value.Value}
 use Rattle.formats.specs.Events.{unit_of}
-use Rattle.texts.specs.declared.command.CardEntry.{CardEntry}
-use Rattle.texts.specs.declared.command.Entered.{Entered}
+use Rattle.texts.specs.declared.command.{CardEntry.CardEntry, Entered.Entered}
 use Rattle.texts.specs.Fields.{number_between}
-use Rattle.scorecard.specs.Spelling.{trimmed, Spells}
-use Rattle.scorecard.specs.Reading.{Reads}
+use Rattle.scorecard.specs.{Spelling.trimmed, Spelling.Spells, Reading.Reads}
 use Rattle.scorecard.specs.declared.fault.ScorecardFault.{ScorecardFault as FieldFault}
-use Rattle.scorecard.specs.declared.fault.ScorecardFault.TheVariants as field
-use Rattle.card_forms.specs.declared.cards.CardForm.{CardForm}
-use Rattle.card_forms.specs.declared.faults.CardFault.{CardFault}
-use Rattle.card_forms.specs.declared.faults.CardFault.TheVariants as card
-use Rattle.card_forms.specs.declared.faults.CardReading.{CardReading}
-use Rattle.card_forms.specs.declared.faults.CardReading.TheVariants as reading
-use Rattle.card_forms.specs.declared.faults.NumberFault.{NumberFault}
-use Rattle.card_forms.specs.declared.faults.NumberFault.TheVariants as number
+use Rattle.card_forms.specs.declared.{cards.CardForm.CardForm, faults.NumberFault.NumberFault}
+use Rattle.card_forms.specs.declared.faults.{CardFault.CardFault, CardReading.CardReading}
 use Rattle.card_forms.specs.declared.reading.FieldContent.{FieldContent}
+use Rattle.scorecard.specs.declared.fault.ScorecardFault.TheVariants as field
+use Rattle.card_forms.specs.declared.faults.CardFault.TheVariants as card
+use Rattle.card_forms.specs.declared.faults.CardReading.TheVariants as reading
+use Rattle.card_forms.specs.declared.faults.NumberFault.TheVariants as number
 use Rattle.card_forms.specs.declared.reading.FieldContent.TheVariants as said
 
 -- ---- the number

@@ -2,11 +2,9 @@
 use Rattle.std.specs.Prelude.{◌≡◌, ℕ, ◌+◌, ◌==◌, ◌&&◌, Bool, true, not, if◌then◌else◌, bytes_eq}
 use Rattle.std.specs.Prelude.{codes, length, nat_le, List, ◌++◌, Ok}
 use Rattle.std.specs.List.{list_all}
-use Rattle.texts.specs.declared.command.RemarkedCommand.{RemarkedCommand}
+use Rattle.texts.specs.{declared.command.RemarkedCommand.RemarkedCommand, Names.is_remark}
 use Rattle.texts.specs.Fields.{cut, cut_remark}
-use Rattle.texts.specs.Names.{is_remark}
-use Rattle.texts.specs.Reading.{command_of}
-use Rattle.texts.specs.Table.{row_named, takes_remark_in}
+use Rattle.texts.specs.{Reading.command_of, Table.row_named, Table.takes_remark_in}
 
 -- the command of a text may have a remark
 abbrev pub takes_remark : List ℕ → Bool

@@ -4,11 +4,9 @@ ghost use Rattle.std.specs.Prelude.{◌≡◌, ◌↔◌, codes, Err, IfErr, IfO
 ghost use Rattle.std.specs.List.{list_any};
 ghost use Rattle.texts.specs.Table.{plain, row_named};
 ghost use Rattle.card_forms.specs.Asking.{Asks, FieldsAsk, IsAsked, IsCommandText, WordAsks};
-ghost use Rattle.card_forms.specs.Asking.{has_form};
-ghost use Rattle.card_forms.specs.Cards.{form_id_of};
+ghost use Rattle.card_forms.specs.{Asking.has_form, Cards.form_id_of, Pairs.value_of};
 ghost use Rattle.card_forms.specs.Faults.{Blames, IsFault, IsNoCommand, IsSaid, IsWrong, IsWrongBy};
 ghost use Rattle.card_forms.specs.Faults.{IsWrongIf, blamed, has_no_text, is_moves, is_name};
-ghost use Rattle.card_forms.specs.Pairs.{value_of};
 
 use crate::cards::form_id_of;
 use crate::command_faults::{CommandFormFault, Field, FieldError, FieldFault};

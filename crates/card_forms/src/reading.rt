@@ -1,16 +1,15 @@
 //! The fields of a card, read.
 
-ghost use Rattle.std.specs.Prelude.{◌≡◌, ◌++◌, ◌∷◌, [], IfOk, IfErr, IfSome, OnOk, flat_map};
-ghost use Rattle.std.specs.Prelude.{◌≤◌, ◌<◌, ◌⊎◌, None, Some, length, not, position};
+ghost use Rattle.std.specs.Prelude.{◌≡◌, ◌++◌, ◌∷◌, [], IfOk, IfErr, IfSome, OnOk, flat_map, ◌≤◌};
+ghost use Rattle.std.specs.Prelude.{◌<◌, ◌⊎◌, None, Some, length, not, position};
 ghost use Rattle.std.specs.List.{list_all, list_any};
 ghost use Rattle.formats.specs.Events.{unit_of};
 ghost use Rattle.scorecard.specs.Spelling.{trimmed};
 ghost use Rattle.card_forms.specs.Readings.{changes_nothing, fault_in, filled_at, filled_by};
 ghost use Rattle.card_forms.specs.Readings.{gap_in, left_at, number_fault, number_in, number_of};
 ghost use Rattle.card_forms.specs.Readings.{says_something, text_at, is_untouched, stands_by};
-ghost use Rattle.card_forms.specs.Readings.{stays, unfit, unfit_by};
-ghost use Rattle.card_forms.specs.Readings.{Faults, Says, SaysTyped, IsReadAs, IsNotRead};
-ghost use Rattle.card_forms.specs.Readings.{IsUnfitAs};
+ghost use Rattle.card_forms.specs.Readings.{stays, unfit, unfit_by, Faults, Says, SaysTyped};
+ghost use Rattle.card_forms.specs.Readings.{IsReadAs, IsNotRead, IsUnfitAs};
 
 use crate::cards::CardForm;
 use crate::faults::{CardFault, CardReading, FieldFaults, NumberFault};

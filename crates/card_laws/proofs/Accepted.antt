@@ -1,14 +1,10 @@
 -- Lists of which each command is accepted.
-use Rattle.std.proofs.Common.{◌≡◌, ℕ, Bool, true, false, ◌&&◌, cond, nat_le, is_some, List, []}
-use Rattle.std.proofs.Common.{◌∷◌, ◌++◌, fold, Option, Some, None, Result, Ok, Err, refl, sym, ap}
-use Rattle.std.proofs.Common.{◌∙◌}
+use Rattle.std.proofs.Common.{◌≡◌, ℕ, Bool, true, false, ◌&&◌, cond, nat_le, is_some, List, [], ◌∷◌}
+use Rattle.std.proofs.Common.{◌++◌, fold, Option, Some, None, Result, Ok, Err, refl, sym, ap, ◌∙◌}
 use Rattle.std.proofs.Common.{subst, append_assoc, append-nil}
 use Rattle.std.specs.Option.{option_or}
-use Rattle.texts.specs.declared.answer.Code.{Code}
-use Rattle.texts.specs.declared.answer.Code.TheVariants as code
-use Rattle.texts.specs.declared.command.Command.{Command}
-use Rattle.texts.specs.declared.command.RemarkedCommand.{RemarkedCommand}
-use Rattle.texts.specs.declared.reading.CommandFault.{CommandFault}
+use Rattle.texts.specs.declared.{answer.Code.Code, reading.CommandFault.CommandFault}
+use Rattle.texts.specs.declared.command.{Command.Command, RemarkedCommand.RemarkedCommand}
 use Rattle.texts.specs.Editions.{edition_of, has_name_in, remark_edition}
 use Rattle.texts.specs.Reading.{command_of}
 use Rattle.commands.specs.Accepted.{edition_in, refusal}
@@ -16,6 +12,7 @@ use Rattle.commands.specs.History.{History, nothing, is_seen, added, added_read,
 use Rattle.commands.specs.History.{spelled_refusal, read_refusal_in, after_in}
 use Rattle.commands.proofs.Lookups.{or_assoc, some≢none}
 use Rattle.card_laws.specs.Accepting.{first_refusal, AreAccepted, LogsAreAccepted}
+use Rattle.texts.specs.declared.answer.Code.TheVariants as code
 
 pub none_first : (a b : Option Code) → option_or a b ≡ None → a ≡ None
 none_first None b h = refl
@@ -30,13 +27,9 @@ first_of_both : (cs ds es : List Command)
     → first_refusal cs (ds ++ es) ≡ option_or (first_refusal cs ds) (first_refusal (cs ++ ds) es)
 first_of_both cs [] es = ap (λ (xs : List Command). first_refusal xs es) (sym (append-nil cs))
 first_of_both cs (d ∷ ds) es =
-    ap (option_or (refusal cs d)) (first_of_both (cs ++ d ∷ []) ds es)
-    ∙ or_assoc (refusal cs d) (first_refusal (cs ++ d ∷ []) ds)
-    (first_refusal ((cs ++ d ∷ []) ++ ds) es)
-    ∙ ap
-    (λ (xs : List Command).
-    option_or (option_or (refusal cs d) (first_refusal (cs ++ d ∷ []) ds)) (first_refusal xs es))
-    (append_assoc cs (d ∷ []) ds)
+    ap (option_or (refusal cs d)) (first_of_both (cs ++ d ∷ []) ds es) ∙ or_assoc (refusal cs d)
+    (first_refusal (cs ++ d ∷ []) ds) (first_refusal ((cs ++ d ∷ []) ++ ds) es) ∙ rw
+    (append_assoc cs (d ∷ []) ds) refl
 
 -- the others are accepted after those in front
 accepted_later : (cs ds es : List Command) → AreAccepted cs (ds ++ es) → AreAccepted (cs ++ ds) es
@@ -60,8 +53,7 @@ accepted_one cs ds es d h =
 
 -- what is accepted of what was read
 pub own_checks : (k : ℕ) (cs : List Command) (c : RemarkedCommand)
-    → read_refusal_in k cs (Ok c) ≡ None
-    → refusal cs c.command ≡ None
+    → read_refusal_in k cs (Ok c) ≡ None → refusal cs c.command ≡ None
 own_checks k cs c h = known (knows k c.command) h
   where
     spelled : (b : Bool) → cond b (refusal cs c.command) (Some code.Unread) ≡ None
@@ -72,8 +64,7 @@ own_checks k cs c h = known (knows k c.command) h
     known : (b : Bool) → cond b (spelled_refusal cs c) (Some code.Unread) ≡ None
         → refusal cs c.command ≡ None
     known true h =
-        spelled
-        (has_name_in (edition_in cs) c.command
+        spelled (has_name_in (edition_in cs) c.command
         && nat_le (edition_of c.command) (edition_in cs)
         && nat_le (remark_edition (is_some c.remark)) (edition_in cs)) h
     known false h = absurd (some≢none code.Unread h)
@@ -86,10 +77,7 @@ accepted_read k cs (Ok c) h = step (read_refusal_in k cs (Ok c)) refl
   where
     step : (o : Option Code) → read_refusal_in k cs (Ok c) ≡ o
         → AreAccepted [] (cs ++ added o c.command)
-    step None is =
-        first_of_both [] cs (c.command ∷ [])
-        ∙ ap (λ (o : Option Code). option_or o (first_refusal cs (c.command ∷ []))) h
-        ∙ ap (λ (o : Option Code). option_or o None) (own_checks k cs c is)
+    step None is = first_of_both [] cs (c.command ∷ []) ∙ rw (h, own_checks k cs c is) refl
     step (Some why) is = subst (AreAccepted []) (sym (append-nil cs)) h
 
 accepted_after : (k : ℕ) (h : History) (id : ℕ) (text : List ℕ) → AreAccepted [] h.accepted
@@ -114,8 +102,7 @@ accepted_fold : (k : ℕ) (h : History) (entries : List (ℕ × List ℕ)) → A
     (fold (λ (x : History) (entry : ℕ × List ℕ). after_in k x entry.0 entry.1) h entries).accepted
 accepted_fold k h [] are = are
 accepted_fold k h (entry ∷ entries) are =
-    accepted_fold k (after_in k h entry.0 entry.1) entries
-    (accepted_after k h entry.0 entry.1 are)
+    accepted_fold k (after_in k h entry.0 entry.1) entries (accepted_after k h entry.0 entry.1 are)
 
 pub logs_are_accepted : LogsAreAccepted
 logs_are_accepted k entries cs ds is =

@@ -1,26 +1,21 @@
 -- What is found of a number in a table in which nobody else has it.
-use Rattle.std.proofs.Common.{◌≡◌, ℕ, ◌≤◌, Bool, true, false, cond, List, [], ◌∷◌, map}
-use Rattle.std.proofs.Common.{length, All, Option, Some, None, MatchOption, option_map, sym}
-use Rattle.std.proofs.Common.{ap, ◌∙◌, arith, subst}
-use Rattle.std.specs.List.{AllByRecursion}
+use Rattle.std.proofs.Common.{◌≡◌, ℕ, ◌≤◌, Bool, true, false, cond, List, [], ◌∷◌, map, length, All}
+use Rattle.std.proofs.Common.{Option, Some, None, MatchOption, option_map, sym, ap, ◌∙◌, arith}
+use Rattle.std.{proofs.Common.subst, specs.List.AllByRecursion}
 use Rattle.std.proofs.lemmas.List.Elements.{All-from_recursion, recursion_from_All}
-use Rattle.attempts.specs.declared.Unit.{Unit as Measure}
-use Rattle.attempts.specs.declared.Unit.TheVariants as measure
-use Rattle.attempts.specs.declared.Value.{Value}
-use Rattle.attempts.specs.declared.Value.TheVariants as value
+use Rattle.attempts.specs.declared.{Unit.Unit as Measure, Value.Value}
 use Rattle.attempts.specs.Attempts.{IsInRangeOf}
-use Rattle.formats.specs.declared.events.Format.{Format}
-use Rattle.formats.specs.Events.{attempts_of}
-use Rattle.texts.specs.declared.command.Settings.{Settings}
-use Rattle.texts.specs.Spelling.{IsCounted}
+use Rattle.formats.specs.{declared.events.Format.Format, Events.attempts_of}
+use Rattle.texts.specs.{declared.command.Settings.Settings, Spelling.IsCounted}
 use Rattle.texts.proofs.CardSpellings.{was_spelled}
-use Rattle.rounds.specs.Rows.{AreValues}
+use Rattle.rounds.specs.{Rows.AreValues, Tables.entrant, Tables.has_number, Tables.meets}
 use Rattle.rounds.specs.Tables.{Entrant, Table, IsCutoff, KeepsAllotted, allotted, changed_of}
-use Rattle.rounds.specs.Tables.{entrant, has_number, meets}
 use Rattle.commands.proofs.Lookups.{some≢none}
 use Rattle.sheets.proofs.Lengths.{at_most_five}
 use Rattle.card_laws.specs.Premises.{MeetsPremises}
 use Rattle.card_laws.proofs.Entrants.{found_holds, none_found}
+use Rattle.attempts.specs.declared.Unit.TheVariants as measure
+use Rattle.attempts.specs.declared.Value.TheVariants as value
 
 -- Values of nobody else
 
@@ -95,11 +90,9 @@ module _ (n : ℕ) (round : Settings × Table) (rules : IsCutoff round.1.format 
             let same : are.one ≡ one = cc in
             let nothing : vs ≡ [] =
             are.are ∙ ap (λ (e : Entrant). e.values) same ∙ none in
-            All-from_recursion (λ e. has_number n e ≡ true → e.values ≡ []) round.1.entrants
-            (subst
+            All-from_recursion (λ e. has_number n e ≡ true → e.values ≡ []) round.1.entrants (subst
             (λ (ws : List Value).
-            AllByRecursion (λ e. has_number n e ≡ true → e.values ≡ ws) round.1.entrants)
-            nothing
+            AllByRecursion (λ e. has_number n e ≡ true → e.values ≡ ws) round.1.entrants) nothing
             (only_these n vs round.1.entrants
             (ap (λ (t : Table). t.entrants) (are.alone (λ old. old)))));
         reads_back =
@@ -108,14 +101,11 @@ module _ (n : ℕ) (round : Settings × Table) (rules : IsCutoff round.1.format 
             let same : are.one ≡ one = cc in
             let values : vs ≡ one.values = are.are ∙ ap (λ (e : Entrant). e.values) same in
             let few : length one.values ≤ 5 =
-            five round.1.format round.1.cutoff one.values rules
-            (found_holds n
+            five round.1.format round.1.cutoff one.values rules (found_holds n
             (λ e. length e.values ≤ allotted round.1.format round.1.cutoff e.values)
-            round.1.entrants one
-            (recursion_from_All
+            round.1.entrants one (recursion_from_All
             (λ e. length e.values ≤ allotted round.1.format round.1.cutoff e.values)
-            round.1.entrants kept)
-            is) in
+            round.1.entrants kept) is) in
             was_spelled.found one.values (
               (omega arith, few),
               All-from_recursion IsCounted one.values
@@ -127,8 +117,7 @@ module _ (n : ℕ) (round : Settings × Table) (rules : IsCutoff round.1.format 
 
 -- whether it is or not
 either_meets : {A : Type 0} (view : A → List Value) (n : ℕ) (round : Settings × Table)
-    (o : Option A)
-    → IsCutoff round.1.format round.1.cutoff → KeepsAllotted round.1
+    (o : Option A) → IsCutoff round.1.format round.1.cutoff → KeepsAllotted round.1
     → MatchOption o (entrant round.1 n ≡ None) (λ x. AreValues round.1 n (view x))
     → MeetsPremises n (Some round)
 either_meets view n round None rules kept h = absent_meets n round rules kept h
@@ -142,9 +131,7 @@ pub meets_there : {A : Type 0} (view : A → List Value) (n : ℕ) (round : Opti
 meets_there view n None t o is = absurd (some≢none t is)
 meets_there view n (Some r) t o is =
     let same : r.1 ≡ t = cc in
-    subst
-    (λ (u : Table).
+    subst (λ (u : Table).
     IsCutoff u.format u.cutoff → KeepsAllotted u
-    → MatchOption o (entrant u n ≡ None) (λ x. AreValues u n (view x))
-    → MeetsPremises n (Some r))
+    → MatchOption o (entrant u n ≡ None) (λ x. AreValues u n (view x)) → MeetsPremises n (Some r))
     same (either_meets view n r o)

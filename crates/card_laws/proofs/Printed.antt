@@ -2,10 +2,8 @@
 use Rattle.std.proofs.Common.{◌≡◌, ◌∙◌, ℕ, suc, List, [], ◌∷◌, ◌++◌, refl, sym, ap, append_assoc}
 use Rattle.std.proofs.Common.{append-nil}
 use Rattle.formats.specs.declared.events.Event.{Event}
-use Rattle.texts.specs.declared.command.Command.{Command}
+use Rattle.texts.specs.declared.command.{Command.Command, RoundId.RoundId, Entered.Entered}
 use Rattle.texts.specs.declared.command.Command.TheVariants.{Attempt, Card}
-use Rattle.texts.specs.declared.command.RoundId.{RoundId}
-use Rattle.texts.specs.declared.command.Entered.{Entered}
 use Rattle.texts.specs.Fields.{attempt_entry}
 use Rattle.commands.specs.Accepted.{name_given, renaming, name_of, round_of}
 use Rattle.commands.proofs.Lookups.{standing_kept}
@@ -15,26 +13,23 @@ use Rattle.card_laws.proofs.Outcomes.{card_is_attempts}
 
 -- attempts open no round
 attempts_before : (cs : List Command) (id : RoundId) (n k : ℕ) (xs : List Entered) (e : Event)
-    (r : ℕ)
-    → before_of (cs ++ attempts_from id n k xs) e r ≡ before_of cs e r
+    (r : ℕ) → before_of (cs ++ attempts_from id n k xs) e r ≡ before_of cs e r
 attempts_before cs id n k [] e r = ap (λ (ds : List Command). before_of ds e r) (append-nil cs)
 attempts_before cs id n k (x ∷ xs) e r =
-    ap (λ (ds : List Command). before_of ds e r)
-    (sym
-    (append_assoc cs (Attempt (attempt_entry id k n x) ∷ []) (attempts_from id n (suc k) xs)))
-    ∙ attempts_before (cs ++ Attempt (attempt_entry id k n x) ∷ []) id n (suc k) xs e r
-    ∙ before_kept cs (Attempt (attempt_entry id k n x)) e r refl
+    rw
+    (sym (append_assoc cs (Attempt (attempt_entry id k n x) ∷ []) (attempts_from id n (suc k) xs)))
+    (attempts_before (cs ++ Attempt (attempt_entry id k n x) ∷ []) id n (suc k) xs e r
+    ∙ before_kept cs (Attempt (attempt_entry id k n x)) e r refl)
 
 -- and give nobody a name
 attempts_name : (cs : List Command) (id : RoundId) (n k : ℕ) (xs : List Entered) (m : ℕ)
     → name_of (cs ++ attempts_from id n k xs) m ≡ name_of cs m
 attempts_name cs id n k [] m = ap (λ (ds : List Command). name_of ds m) (append-nil cs)
 attempts_name cs id n k (x ∷ xs) m =
-    ap (λ (ds : List Command). name_of ds m)
-    (sym
-    (append_assoc cs (Attempt (attempt_entry id k n x) ∷ []) (attempts_from id n (suc k) xs)))
-    ∙ attempts_name (cs ++ Attempt (attempt_entry id k n x) ∷ []) id n (suc k) xs m
-    ∙ standing_kept (name_given m) (renaming m) cs (Attempt (attempt_entry id k n x)) refl refl
+    rw
+    (sym (append_assoc cs (Attempt (attempt_entry id k n x) ∷ []) (attempts_from id n (suc k) xs)))
+    (attempts_name (cs ++ Attempt (attempt_entry id k n x) ∷ []) id n (suc k) xs m ∙ standing_kept
+    (name_given m) (renaming m) cs (Attempt (attempt_entry id k n x)) refl refl)
 
 -- nor does a card
 card_names : (cs : List Command) (id : RoundId) (n : ℕ) (xs : List Entered)

@@ -1,32 +1,22 @@
 -- Remarks count for nothing.
-use Rattle.std.proofs.Common.{◌≡◌, ℕ, ◌≤◌, ◌<◌, Bool, true, false, ◌&&◌, cond, nat_le, is_some}
-use Rattle.std.proofs.Common.{List}
-use Rattle.std.proofs.Common.{[], ◌∷◌, ◌++◌, fold, Option, Some, None, unwrap_or, Result, Ok, Err}
-use Rattle.std.proofs.Common.{refl}
+use Rattle.std.proofs.Common.{◌≡◌, ℕ, ◌≤◌, ◌<◌, Bool, true, false, cond, nat_le, is_some, List, []}
+use Rattle.std.proofs.Common.{◌∷◌, ◌++◌, fold, Option, Some, None, unwrap_or, Result, Ok, Err, refl}
 use Rattle.std.proofs.Common.{sym, ap, ◌∙◌, subst, arith, append-nil, ◌⊎◌, inl, inr}
-use Rattle.std.proofs.lemmas.Bool.Decides.{nat_tests}
-use Rattle.std.proofs.lemmas.List.Sums.{fold-append}
-use Rattle.texts.specs.declared.answer.Code.{Code}
-use Rattle.texts.specs.declared.answer.Code.TheVariants as code
-use Rattle.texts.specs.declared.command.Command.{Command}
-use Rattle.texts.specs.declared.command.Command.TheVariants.{SetEdition}
-use Rattle.texts.specs.declared.command.RemarkedCommand.{RemarkedCommand}
-use Rattle.texts.specs.declared.reading.CommandFault.{CommandFault}
-use Rattle.texts.specs.Editions.{edition_of, has_name_in, remark_edition}
-use Rattle.texts.specs.Reading.{command_of}
-use Rattle.texts.specs.Spelling.{IsFit, IsFitTold, told_spelling}
-use Rattle.texts.specs.Table.{rows}
-use Rattle.texts.proofs.Words.{spelled_found, spelling_short}
+use Rattle.std.proofs.lemmas.{Bool.Decides.nat_tests, List.Sums.fold-append}
+use Rattle.texts.specs.declared.{answer.Code.Code, command.RemarkedCommand.RemarkedCommand}
+use Rattle.texts.specs.declared.command.Command.{Command, TheVariants.SetEdition}
+use Rattle.texts.specs.{declared.reading.CommandFault.CommandFault, Editions.remark_edition}
+use Rattle.texts.{specs.Reading.command_of, proofs.Words.spelled_found, proofs.Words.spelling_short}
+use Rattle.texts.specs.{Table.rows, Spelling.IsFit, Spelling.IsFitTold, Spelling.told_spelling}
 use Rattle.commands.specs.Accepted.{edition_set, edition_after, edition_in, refusal}
-use Rattle.commands.specs.History.{History, nothing, answer_of, is_seen, added, added_read, knows}
-use Rattle.commands.specs.History.{read_refusal_in, entry_refusal_in, answer_in}
-use Rattle.commands.specs.History.{after_in, history_in}
+use Rattle.commands.specs.History.{History, nothing, is_seen, answer_in, after_in, added}
+use Rattle.commands.specs.History.{added_read, read_refusal_in, entry_refusal_in, history_in}
 use Rattle.commands.proofs.Lookups.{some≢none}
 use Rattle.sheets.specs.Sheet.{sheet}
-use Rattle.card_laws.proofs.Accepted.{own_checks}
+use Rattle.card_laws.{proofs.Accepted.own_checks, specs.WorkedCards.SetsEdition}
 use Rattle.card_laws.specs.Telling.{with_told, IsOneCommand, RemarksAreTold, IsToldAlike}
 use Rattle.card_laws.specs.Telling.{AreToldAlike, NothingStandsOnRemarks}
-use Rattle.card_laws.specs.WorkedCards.{SetsEdition}
+use Rattle.texts.specs.declared.answer.Code.TheVariants as code
 
 -- One text
 
@@ -37,59 +27,22 @@ has_either edition None low = grind (arith, nat_tests)
 has_either edition (Some bytes) low = grind (arith, nat_tests)
 
 read_same : (k : ℕ) (cs : List Command) (c : Command) (remark instead : Option (List ℕ))
-    → 4 ≤ edition_in cs
-    → read_refusal_in k cs (Ok (with_told c remark))
+    → 4 ≤ edition_in cs → read_refusal_in k cs (Ok (with_told c remark))
     ≡ read_refusal_in k cs (Ok (with_told c instead))
 read_same k cs c remark instead low =
-    ap
-    (λ (b : Bool).
-    cond (knows k c)
-    (cond
-    (has_name_in (edition_in cs) c && nat_le (edition_of c) (edition_in cs) && b)
-    (refusal cs c) (Some code.Unread))
-    (Some code.Unread))
-    (has_either (edition_in cs) remark low ∙ sym (has_either (edition_in cs) instead low))
+    rw (has_either (edition_in cs) remark low ∙ sym (has_either (edition_in cs) instead low)) refl
 
 answer_same : (k : ℕ) (h : History) (id : ℕ) (one other : List ℕ) → IsOneCommand one other
     → 4 ≤ edition_in h.accepted → answer_in k h id one ≡ answer_in k h id other
 unfolding entry_refusal_in
 answer_same k h id one other same low =
-    ap
-    (λ (r : Result RemarkedCommand CommandFault).
-    answer_of (cond (is_seen h id) (Some code.Repeat) (read_refusal_in k h.accepted r)))
-    same.3
-    ∙ ap (λ (o : Option Code). answer_of (cond (is_seen h id) (Some code.Repeat) o))
-    (read_same k h.accepted same.0 same.1 same.2 low)
-    ∙ sym
-    (ap
-    (λ (r : Result RemarkedCommand CommandFault).
-    answer_of (cond (is_seen h id) (Some code.Repeat) (read_refusal_in k h.accepted r)))
-    same.4)
-
--- a history after an entry that reads so
-abbrev after_read : ℕ → History → ℕ → Option Code → Result RemarkedCommand CommandFault → History
-after_read k h id refused r =
-    cond (is_seen h id) h
-    (let new : History = record {
-      ids = h.ids ++ id ∷ [];
-      accepted = h.accepted ++ added_read refused r;
-    } in new)
+    rw (same.3, read_same k h.accepted same.0 same.1 same.2 low, same.4) refl
 
 after_same : (k : ℕ) (h : History) (id : ℕ) (one other : List ℕ) → IsOneCommand one other
     → 4 ≤ edition_in h.accepted → after_in k h id one ≡ after_in k h id other
 unfolding after_in
 after_same k h id one other same low =
-    ap
-    (λ (r : Result RemarkedCommand CommandFault). after_read k h id (read_refusal_in k h.accepted r)
-    r)
-    same.3
-    ∙ ap (λ (o : Option Code). after_read k h id o (Ok (with_told same.0 same.2)))
-    (read_same k h.accepted same.0 same.1 same.2 low)
-    ∙ sym
-    (ap
-    (λ (r : Result RemarkedCommand CommandFault). after_read k h id (read_refusal_in k h.accepted r)
-    r)
-    same.4)
+    rw (same.3, read_same k h.accepted same.0 same.1 same.2 low, same.4) refl
 
 one_command : (c : Command) (remark instead : Option (List ℕ))
     → IsFitTold (with_told c remark) → IsFitTold (with_told c instead)
@@ -163,8 +116,7 @@ module _ (k : ℕ) where
 
   entry_same : (h : History) (one other : ℕ × List ℕ) → IsToldAlike one other
       → 4 ≤ edition_in h.accepted → next h one ≡ next h other
-  entry_same h one other same low =
-      ap (λ (id : ℕ). after_in k h id one.1) same.0 ∙ text same.1
+  entry_same h one other same low = rw same.0 (text same.1)
     where
       text : (one.1 ≡ other.1) ⊎ IsOneCommand one.1 other.1
           → after_in k h other.0 one.1 ≡ after_in k h other.0 other.1
@@ -205,10 +157,8 @@ nothing_stands_on_remarks = record {
 pub sets_edition : SetsEdition
 unfolding after_in rows
 sets_edition number =
-    subst
-    (λ (r : Result RemarkedCommand CommandFault).
-    4 ≤ edition_in (added_read (read_refusal_in 4 [] r) r))
-    (sym
+    subst (λ (r : Result RemarkedCommand CommandFault).
+    4 ≤ edition_in (added_read (read_refusal_in 4 [] r) r)) (sym
     (spelled_found (with_told (SetEdition 4) None) (fit, tt, spelling_short (SetEdition 4) fit)))
     (omega arith)
   where

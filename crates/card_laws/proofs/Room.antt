@@ -1,13 +1,10 @@
 -- Where more values fit, the next one is no attempt too many.
 use Rattle.std.proofs.Common.{◌≡◌, ℕ, zero, suc, ◌<◌, ◌≤◌, nat_le, Bool, true, false, cond, not}
-use Rattle.std.proofs.Common.{List}
-use Rattle.std.proofs.Common.{[], ◌∷◌, ◌++◌, length, take, Option, None, Some, refl, sym, ap, arith}
-use Rattle.std.proofs.Common.{subst, length-append}
-use Rattle.std.specs.List.{list_any}
-use Rattle.std.proofs.lemmas.Bool.Decides.{nat_tests}
+use Rattle.std.proofs.Common.{List, [], ◌∷◌, ◌++◌, length, take, Option, None, Some, refl, sym, ap}
+use Rattle.std.proofs.Common.{arith, subst, length-append}
+use Rattle.std.{specs.List.list_any, proofs.lemmas.Bool.Decides.nat_tests}
 use Rattle.attempts.specs.declared.Value.{Value}
-use Rattle.formats.specs.declared.events.Format.{Format}
-use Rattle.formats.specs.Events.{attempts_of}
+use Rattle.formats.specs.{declared.events.Format.Format, Events.attempts_of}
 use Rattle.rounds.specs.Tables.{IsCutoff, is_below, meets, allotted, fits}
 use Rattle.rounds.proofs.Allotted.{one_more}
 
@@ -23,8 +20,7 @@ within_from format cutoff vs h = grind (arith, nat_tests)
 take_more : (k : ℕ) (vs ws : List Value) → k ≤ length vs → take k (vs ++ ws) ≡ take k vs
 take_more zero vs ws h = refl
 take_more (suc k) [] ws h = absurd (omega (arith, h))
-take_more (suc k) (v ∷ vs) ws h =
-    ap (λ (us : List Value). v ∷ us) (take_more k vs ws (omega (arith, h)))
+take_more (suc k) (v ∷ vs) ws h = rw (take_more k vs ws (omega (arith, h))) refl
 
 abbrev by_met : Format → ℕ → Bool → ℕ
 by_met format k met = cond met (attempts_of format) k
@@ -69,8 +65,7 @@ pub next_check : (format : Format) (cutoff : Option (ℕ × ℕ)) (vs : List Val
     → IsCutoff format cutoff
     → fits format cutoff (vs ++ v ∷ []) ≡ not (nat_le (allotted format cutoff vs) (length vs))
 next_check format cutoff vs v is =
-    same_tests _ _
-    (λ h.
+    same_tests _ _ (λ h.
     room (room_before format cutoff vs v [] is (within_from format cutoff (vs ++ v ∷ []) h)))
     (λ h. fits_from format cutoff (vs ++ v ∷ []) (one_more format cutoff vs v is (left h)))
   where

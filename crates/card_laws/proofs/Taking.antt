@@ -1,29 +1,22 @@
 -- What a card that is accepted says counts, and what counts after it.
-use Rattle.std.proofs.Common.{◌≡◌, ◌≢◌, ℕ, suc, ◌+◌, Bool, true, false, not, ◌==◌, ◌&&◌, cond}
-use Rattle.std.proofs.Common.{nat_le, List, [], ◌∷◌, ◌++◌, find, length, Option, Some, None}
+use Rattle.std.proofs.Common.{◌≡◌, ◌≢◌, ℕ, suc, ◌+◌, Bool, true, false, not, ◌==◌, cond, nat_le}
+use Rattle.std.proofs.Common.{List, [], ◌∷◌, ◌++◌, find, length, Option, Some, None, eq-eqb}
 use Rattle.std.proofs.Common.{option_map, is_some, refl, sym, ap, ◌∙◌, arith, append_assoc}
-use Rattle.std.proofs.Common.{append-nil, eqb-true, eq-eqb}
-use Rattle.std.specs.List.{AllByRecursion}
-use Rattle.std.proofs.lemmas.List.Elements.{recursion_from_All}
-use Rattle.std.proofs.lemmas.Bool.{false≢true}
-use Rattle.std.proofs.lemmas.Bool.Decides.{nat_tests}
+use Rattle.std.{proofs.Common.append-nil, proofs.Common.eqb-true, specs.List.AllByRecursion}
+use Rattle.std.proofs.lemmas.{List.Elements.recursion_from_All, Bool.Decides.nat_tests}
+use Rattle.std.proofs.lemmas.Bool.{false≢true, and_parts}
 use Rattle.cube.specs.declared.moves.Move.{Move}
 use Rattle.attempts.specs.declared.Value.{Value}
-use Rattle.formats.specs.declared.events.Event.{Event}
+use Rattle.formats.{specs.declared.events.Event.Event, proofs.SameEvent.same_event-equal}
 use Rattle.formats.specs.Events.{same_event, event_number}
-use Rattle.formats.proofs.SameEvent.{same_event-equal}
-use Rattle.texts.specs.declared.answer.Code.{Code}
-use Rattle.texts.specs.declared.answer.Code.TheVariants as code
-use Rattle.texts.specs.declared.command.Command.{Command}
+use Rattle.texts.specs.declared.{answer.Code.Code, command.RoundId.RoundId}
+use Rattle.texts.specs.declared.command.{Settings.Settings, Command.Command, CardEntry.CardEntry}
 use Rattle.texts.specs.declared.command.Command.TheVariants.{Card, Fix, Cancel}
-use Rattle.texts.specs.declared.command.CardEntry.{CardEntry}
-use Rattle.texts.specs.declared.command.RoundId.{RoundId}
-use Rattle.texts.specs.declared.command.Settings.{Settings}
 use Rattle.rounds.specs.Tables.{Entrant, Table, has_number, has_done, is_attempted}
 use Rattle.commands.specs.Accepted.{refusal, round_of, round_by, scramble_of, is_of, is_cancelled}
-use Rattle.commands.specs.Accepted.{is_registered, are_values, seen_refusal}
-use Rattle.commands.specs.Accepted.{unfit_card_refusal, card_refusal, fix_refusal, cancel_refusal}
-use Rattle.commands.specs.Accepted.{competitors_seen, values_now, counts_in, card_values}
+use Rattle.commands.specs.Accepted.{is_registered, are_values, seen_refusal, unfit_card_refusal}
+use Rattle.commands.specs.Accepted.{card_refusal, fix_refusal, cancel_refusal, competitors_seen}
+use Rattle.commands.specs.Accepted.{values_now, counts_in, card_values}
 use Rattle.commands.specs.model.Cards.{scrambles_of, with_outcomes}
 use Rattle.commands.proofs.CardRounds.{IsOfCard, card_is, fix_is, round_dealt}
 use Rattle.commands.proofs.CardSteps.{same_values}
@@ -31,17 +24,9 @@ use Rattle.commands.proofs.Lookups.{some≢none}
 use Rattle.card_laws.specs.Accepting.{first_refusal, AreAccepted}
 use Rattle.card_laws.specs.Holding.{held, names, values_left, entrant_with, CardStands, FixStands}
 use Rattle.card_laws.specs.GivingBack.{has_values, is_shown}
-use Rattle.card_laws.proofs.Accepted.{none_first, none_second}
+use Rattle.card_laws.proofs.{Accepted.none_first, Accepted.none_second, Staying.one_more}
 use Rattle.card_laws.proofs.Entrants.{any_found, found_made, found_number}
-use Rattle.card_laws.proofs.Staying.{one_more}
-
-both_first : (a b : Bool) → (a && b) ≡ true → a ≡ true
-both_first true b h = refl
-both_first false b h = h
-
-both_second : (a b : Bool) → (a && b) ≡ true → b ≡ true
-both_second true b h = h
-both_second false b h = absurd (false≢true h)
+use Rattle.texts.specs.declared.answer.Code.TheVariants as code
 
 -- A card that is accepted
 
@@ -64,8 +49,7 @@ card_sees : (scrambles : ℕ → Option (List Move)) (card : CardEntry) (o : Opt
     → has_values card.was (held card.number o) ≡ true
 card_sees scrambles card None h = absurd (some≢none code.RoundUnknown h)
 card_sees scrambles card (Some round) h =
-    has_seen card.was (held card.number (Some round))
-    (none_first _ _
+    has_seen card.was (held card.number (Some round)) (none_first _ _
     (passed round.1.is_closed code.Closed _
     (none_second (unfit_card_refusal card.id.event scrambles card.now) _ h)))
 
@@ -75,8 +59,7 @@ fix_sees : (scrambles : ℕ → Option (List Move)) (card : CardEntry) (competit
     → has_values card.was (held card.number o) ≡ true
 fix_sees scrambles card competitors next None h = absurd (some≢none code.RoundUnknown h)
 fix_sees scrambles card competitors next (Some round) h =
-    has_seen card.was (held card.number (Some round))
-    (none_first _ _
+    has_seen card.was (held card.number (Some round)) (none_first _ _
     (passed (not round.1.is_closed) code.NotClosed _
     (none_second (unfit_card_refusal card.id.event scrambles card.now) _ h)))
 
@@ -90,8 +73,7 @@ card_shown cs card h =
 pub fix_shown : (cs : List Command) (card : CardEntry) → refusal cs (Fix card) ≡ None
     → is_shown cs card ≡ true
 fix_shown cs card h =
-    fix_sees (scramble_of cs card.id.event card.id.round) card
-    (competitors_seen cs card.id.event)
+    fix_sees (scramble_of cs card.id.event card.id.round) card (competitors_seen cs card.id.event)
     (is_some (round_of cs card.id.event (card.id.round + 1))) (round_by cs card.id)
     (passed (not (is_registered cs card.number)) code.UnknownCompetitor _ h)
 
@@ -121,27 +103,21 @@ entered scrambles card round shown =
         ≡ Some (entrant_with card.number (card_values scrambles card round.0))
     step None is h = absurd (false≢true h)
     step (Some one) is h =
-        found_made card.number change round.1.entrants one is
-        ∙ ap (λ (k : ℕ). Some (entrant_with k (change one.values)))
-        (sym (found_number card.number round.1.entrants one is))
-        ∙ ap (λ (vs : List Value). Some (entrant_with card.number (change vs)))
-        (sym (same_values card.was one.values h))
+        found_made card.number change round.1.entrants one is ∙ rw (
+          sym (found_number card.number round.1.entrants one is),
+          sym (same_values card.was one.values h),
+        ) refl
 
 -- after a command that enters a card over what counts
 entered_by : (cs : List Command) (c : Command) (card : CardEntry) → IsOfCard c card
-    → (round : Settings × Table)
-    → round_by cs card.id ≡ Some round → is_shown cs card ≡ true
+    → (round : Settings × Table) → round_by cs card.id ≡ Some round → is_shown cs card ≡ true
     → held card.number (round_by (cs ++ c ∷ []) card.id)
     ≡ Some (entrant_with card.number (values_left cs card round))
 entered_by cs c card is round there shown =
-    ap (held card.number)
-    (round_dealt c card is card.id.event card.id.round cs
-    ∙ ap
-    (λ (b : Bool).
-    cond b
-    (option_map (with_outcomes (scrambles_of cs card.id) card) (round_by cs card.id))
-    (round_by cs card.id))
-    (own_round card.id)
+    ap (held card.number) (round_dealt c card is card.id.event card.id.round cs
+    ∙ ap (λ (b : Bool).
+    cond b (option_map (with_outcomes (scrambles_of cs card.id) card) (round_by cs card.id))
+    (round_by cs card.id)) (own_round card.id)
     ∙ ap (option_map (with_outcomes (scrambles_of cs card.id) card)) there)
     ∙ entered (scrambles_of cs card.id) card round
     (ap (λ (o : Option (Settings × Table)). has_values card.was (held card.number o)) (sym there)
@@ -170,8 +146,7 @@ not_cancelled next (Some round) n one h some none =
     step true b is none = some≢none code.RoundOpen none
     step false true is none = some≢none code.HasAttempts none
     step false false is none =
-        false≢true
-        (sym is ∙ any_found n (has_done 1) round.1.entrants one h (some_done one some))
+        false≢true (sym is ∙ any_found n (has_done 1) round.1.entrants one h (some_done one some))
 
 -- a command that is accepted does not take back a round in which somebody has an attempt
 stays_open : (cs : List Command) (c : Command) (e : Event) (r n : ℕ) (one : Entrant)
@@ -183,16 +158,13 @@ stays_open cs (Cancel id) e r n one h some accepted = step (is_of e r id) refl
     step false is = refl
     step true is =
         let event : e ≡ id.event =
-        same_event-equal e id.event (both_first (same_event e id.event) (r == id.round) is) in
+        same_event-equal e id.event (and_parts (same_event e id.event) (r == id.round) is).0 in
         let round : r ≡ id.round =
-        eqb-true r id.round (both_second (same_event e id.event) (r == id.round) is) in
-        absurd
-        (not_cancelled (round_of cs id.event (id.round + 1)) (round_by cs id) n one
-        (sym
+        eqb-true r id.round (and_parts (same_event e id.event) (r == id.round) is).1 in
+        absurd (not_cancelled (round_of cs id.event (id.round + 1)) (round_by cs id) n one (sym
         (ap (λ (f : Event). held n (round_of cs f r)) event
         ∙ ap (λ (s : ℕ). held n (round_of cs id.event s)) round)
-        ∙ h)
-        some accepted)
+        ∙ h) some accepted)
 stays_open cs _ e r n one h some accepted = refl
 
 -- of an entrant with an attempt what counts stays, while no accepted command names it
@@ -200,8 +172,7 @@ stands : (cs later : List Command) (e : Event) (r n : ℕ) (one : Entrant)
     → held n (round_of cs e r) ≡ Some one → one.values ≢ []
     → AllByRecursion (λ c. names e r n c ≡ false) later → AreAccepted cs later
     → held n (round_of (cs ++ later) e r) ≡ Some one
-stands cs [] e r n one h some unnamed accepted =
-    ap (λ (ds : List Command). held n (round_of ds e r)) (append-nil cs) ∙ h
+stands cs [] e r n one h some unnamed accepted = rw (append-nil cs) h
 stands cs (c ∷ later) e r n one h some unnamed accepted =
     let now : refusal cs c ≡ None =
     none_first (refusal cs c) (first_refusal (cs ++ c ∷ []) later) accepted in
@@ -210,41 +181,30 @@ stands cs (c ∷ later) e r n one h some unnamed accepted =
     (one_more cs c e r n one h unnamed.0 (stays_open cs c e r n one h some now)) some unnamed.1
     (none_second (refusal cs c) (first_refusal (cs ++ c ∷ []) later) accepted)
 
-stands_after : (cs later : List Command) (c : Command) (card : CardEntry)
-    (round : Settings × Table)
+stands_after : (cs later : List Command) (c : Command) (card : CardEntry) (round : Settings × Table)
     → held card.number (round_by (cs ++ c ∷ []) card.id)
-    ≡ Some (entrant_with card.number (values_left cs card round))
-    → AreAccepted cs (c ∷ later)
+    ≡ Some (entrant_with card.number (values_left cs card round)) → AreAccepted cs (c ∷ later)
     → AllByRecursion (λ d. names card.id.event card.id.round card.number d ≡ false) later
-    → values_left cs card round ≢ []
-    → held card.number (round_by (cs ++ c ∷ later) card.id)
+    → values_left cs card round ≢ [] → held card.number (round_by (cs ++ c ∷ later) card.id)
     ≡ Some (entrant_with card.number (values_left cs card round))
 stands_after cs later c card round now accepted unnamed some =
-    ap
-    (λ (ds : List Command). held card.number (round_by ds card.id))
-    (sym (append_assoc cs (c ∷ []) later))
-    ∙ stands (cs ++ c ∷ []) later card.id.event card.id.round card.number
+    rw (sym (append_assoc cs (c ∷ []) later))
+    (stands (cs ++ c ∷ []) later card.id.event card.id.round card.number
     (entrant_with card.number (values_left cs card round)) now some unnamed
-    (none_second (refusal cs c) (first_refusal (cs ++ c ∷ []) later) accepted)
+    (none_second (refusal cs c) (first_refusal (cs ++ c ∷ []) later) accepted))
 
 pub card_stands : CardStands
 card_stands cs later card round there accepted unnamed some =
     stands_after cs later (Card card) card round
-    (entered_by cs (Card card) card (card_is card) round there
-    (card_shown cs card
+    (entered_by cs (Card card) card (card_is card) round there (card_shown cs card
     (none_first (refusal cs (Card card)) (first_refusal (cs ++ Card card ∷ []) later) accepted)))
-    accepted
-    (recursion_from_All
-    (λ c. names card.id.event card.id.round card.number c ≡ false) later unnamed)
-    some
+    accepted (recursion_from_All
+    (λ c. names card.id.event card.id.round card.number c ≡ false) later unnamed) some
 
 pub fix_stands : FixStands
 fix_stands cs later card round there accepted unnamed some =
     stands_after cs later (Fix card) card round
-    (entered_by cs (Fix card) card (fix_is card) round there
-    (fix_shown cs card
+    (entered_by cs (Fix card) card (fix_is card) round there (fix_shown cs card
     (none_first (refusal cs (Fix card)) (first_refusal (cs ++ Fix card ∷ []) later) accepted)))
-    accepted
-    (recursion_from_All
-    (λ c. names card.id.event card.id.round card.number c ≡ false) later unnamed)
-    some
+    accepted (recursion_from_All
+    (λ c. names card.id.event card.id.round card.number c ≡ false) later unnamed) some

@@ -1,10 +1,8 @@
 -- Commands that are accepted one after the other (the project's own).
 use Rattle.std.specs.Prelude.{◌≡◌, ℕ, List, [], ◌∷◌, ◌++◌, Option, None}
 use Rattle.std.specs.Option.{option_or}
-use Rattle.texts.specs.declared.command.Command.{Command}
-use Rattle.texts.specs.declared.answer.Code.{Code}
-use Rattle.commands.specs.Accepted.{refusal}
-use Rattle.commands.specs.History.{history_in}
+use Rattle.texts.specs.declared.{command.Command.Command, answer.Code.Code}
+use Rattle.commands.specs.{Accepted.refusal, History.history_in}
 
 -- the first refusal of these commands, each asked after `cs` and those in front of it
 abbrev pub first_refusal : List Command → List Command → Option Code

@@ -3,13 +3,11 @@
 use Rattle.std.specs.Prelude.{◌≡◌, ℕ, Bool, true, false, List, [], ◌∷◌, ◌++◌, Option, None, Some}
 use Rattle.attempts.specs.declared.Value.{Value}
 use Rattle.formats.specs.declared.events.Event.{Event}
-use Rattle.texts.specs.declared.command.Command.{Command}
+use Rattle.texts.specs.declared.command.{Command.Command, CardEntry.CardEntry}
 use Rattle.texts.specs.declared.command.Command.TheVariants.{Card, Fix}
-use Rattle.texts.specs.declared.command.CardEntry.{CardEntry}
 use Rattle.rounds.specs.Tables.{Entrant}
 use Rattle.commands.specs.Accepted.{refusal, round_of, are_values}
-use Rattle.card_laws.specs.Accepting.{AreAccepted}
-use Rattle.card_laws.specs.Holding.{held, names}
+use Rattle.card_laws.specs.{Accepting.AreAccepted, Holding.held, Holding.names}
 
 -- the values of an entrant who is there are these
 abbrev pub has_values : List Value → Option Entrant → Bool
@@ -43,8 +41,7 @@ pub record GivesBack (cs after : List Command) (e : Event) (r n : ℕ)
 -- commands between gave back the values that it says
 abbrev pub OnlyWhereGivenBack : (CardEntry → Command) → Type 0
 OnlyWhereGivenBack command =
-    (cs between : List Command) (card : CardEntry)
-    → is_shown cs card ≡ false
+    (cs between : List Command) (card : CardEntry) → is_shown cs card ≡ false
     → refusal (cs ++ between) (command card) ≡ None
     → GivesBack cs between card.id.event card.id.round card.number card.was
 
@@ -72,8 +69,7 @@ IsGivenBack cs after card =
 -- card, and nothing between gave that back, the second is refused.
 abbrev pub SecondOnlyWhereGivenBack : Type 0
 SecondOnlyWhereGivenBack =
-    (cs between : List Command) (first second : CardEntry)
-    → AreOverTheSame first second
+    (cs between : List Command) (first second : CardEntry) → AreOverTheSame first second
     → AreAccepted cs (Card first ∷ between ++ Card second ∷ [])
     → is_shown (cs ++ Card first ∷ []) first ≡ false
     → IsGivenBack (cs ++ Card first ∷ []) between second

@@ -1,14 +1,11 @@
 -- What a round holds of an entrant stays until a command names that one there (the project's own).
 use Rattle.std.specs.Prelude.{◌≡◌, ◌≢◌, ℕ, Bool, false, ◌==◌, ◌&&◌, List, [], ◌∷◌, ◌++◌, All}
-use Rattle.std.specs.Prelude.{Option}
-use Rattle.std.specs.Prelude.{None, Some}
+use Rattle.std.specs.Prelude.{Option, None, Some}
 use Rattle.attempts.specs.declared.Value.{Value}
 use Rattle.formats.specs.declared.events.Event.{Event}
-use Rattle.texts.specs.declared.command.Command.{Command}
+use Rattle.texts.specs.declared.command.{Command.Command, CardEntry.CardEntry, Settings.Settings}
 use Rattle.texts.specs.declared.command.Command.TheVariants.{Attempt, Correct, Strike, Withdraw}
 use Rattle.texts.specs.declared.command.Command.TheVariants.{Card, Fix}
-use Rattle.texts.specs.declared.command.CardEntry.{CardEntry}
-use Rattle.texts.specs.declared.command.Settings.{Settings}
 use Rattle.rounds.specs.Tables.{Entrant, Table, entrant}
 use Rattle.commands.specs.Accepted.{is_of, is_cancelled, round_of, round_by, scramble_of}
 use Rattle.commands.specs.Accepted.{card_values}
@@ -52,8 +49,7 @@ entrant_with n vs = record { number = n; values = vs }
 abbrev pub StandsUntilNamed : (CardEntry → Command) → Type 0
 StandsUntilNamed command =
     (cs later : List Command) (card : CardEntry) (round : Settings × Table)
-    → round_by cs card.id ≡ Some round
-    → AreAccepted cs (command card ∷ later)
+    → round_by cs card.id ≡ Some round → AreAccepted cs (command card ∷ later)
     → All (λ c. names card.id.event card.id.round card.number c ≡ false) later
     → values_left cs card round ≢ []
     → held card.number (round_by (cs ++ command card ∷ later) card.id)

@@ -2,17 +2,13 @@
 -- outcomes, one after the other (the project's own).
 use Rattle.std.specs.Prelude.{◌≡◌, ◌↔◌, ℕ, suc, true, List, [], ◌∷◌, ◌++◌, map, All, Option, None}
 use Rattle.std.specs.Prelude.{Some}
-use Rattle.formats.specs.declared.events.Event.{Event}
-use Rattle.texts.specs.declared.command.Command.{Command}
+use Rattle.formats.specs.declared.{events.Event.Event, styles.SheetStyle.SheetStyle as Style}
+use Rattle.texts.specs.declared.command.{Command.Command, CardEntry.CardEntry, RoundId.RoundId}
 use Rattle.texts.specs.declared.command.Command.TheVariants.{Attempt, Card}
-use Rattle.texts.specs.declared.command.CardEntry.{CardEntry}
-use Rattle.texts.specs.declared.command.RoundId.{RoundId}
-use Rattle.texts.specs.declared.command.Entered.{Entered}
-use Rattle.texts.specs.declared.command.Settings.{Settings}
+use Rattle.texts.specs.declared.command.{Entered.Entered, Settings.Settings}
 use Rattle.texts.specs.Fields.{attempt_entry, card_entry}
 use Rattle.rounds.specs.Tables.{Table, IsCutoff, has_number}
 use Rattle.commands.specs.Accepted.{refusal, round_of, round_by, scramble_of, unfit_card_refusal}
-use Rattle.formats.specs.declared.styles.SheetStyle.{SheetStyle as Style}
 use Rattle.sheets.specs.Sheet.{sheet}
 use Rattle.card_laws.specs.Accepting.{first_refusal, AreAccepted}
 
@@ -40,8 +36,7 @@ HasRules (Some round) = IsCutoff round.1.format round.1.cutoff
 abbrev pub CardIsAttempts : Type 0
 CardIsAttempts =
     (cs : List Command) (id : RoundId) (n : ℕ) (xs : List Entered) (e : Event) (r : ℕ)
-    → StandsBare n (round_by cs id)
-    → round_of (cs ++ Card (first_card id n xs) ∷ []) e r
+    → StandsBare n (round_by cs id) → round_of (cs ++ Card (first_card id n xs) ∷ []) e r
     ≡ round_of (cs ++ attempts_from id n 1 xs) e r
 
 -- and each sheet is the same, byte for byte and in both forms. The position is given to a sheet and
@@ -49,8 +44,7 @@ CardIsAttempts =
 abbrev pub CardPrintsAsAttempts : Type 0
 CardPrintsAsAttempts =
     (style : Style) (cs : List Command) (id : RoundId) (n : ℕ) (xs : List Entered) (event : Event)
-    (round position : ℕ)
-    → StandsBare n (round_by cs id)
+    (round position : ℕ) → StandsBare n (round_by cs id)
     → sheet style (cs ++ Card (first_card id n xs) ∷ []) event round position
     ≡ sheet style (cs ++ attempts_from id n 1 xs) event round position
 

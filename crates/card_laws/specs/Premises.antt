@@ -1,11 +1,8 @@
 -- What the laws ask of a round is so of the rounds of every meet (the project's own).
 use Rattle.std.specs.Prelude.{◌≡◌, ℕ, [], Option, None, Some}
-use Rattle.texts.specs.Fields.{was_of}
-use Rattle.texts.specs.Spelling.{was_text}
-use Rattle.texts.specs.declared.command.Settings.{Settings}
+use Rattle.texts.specs.{Fields.was_of, Spelling.was_text, declared.command.Settings.Settings}
 use Rattle.rounds.specs.Tables.{Entrant, Table}
-use Rattle.card_laws.specs.Holding.{held}
-use Rattle.card_laws.specs.OverNothing.{HasRules, StandsBare}
+use Rattle.card_laws.specs.{Holding.held, OverNothing.HasRules, OverNothing.StandsBare}
 
 -- of a number in a round: the entrant who is found to have it, if any, is the only one, so nothing
 -- counts of the number where nothing counts of that one; and what counts of it is read back from

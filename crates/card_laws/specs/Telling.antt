@@ -2,15 +2,12 @@
 -- project's own).
 use Rattle.std.specs.Prelude.{◌≡◌, ◌≤◌, ◌⊎◌, ℕ, List, [], ◌∷◌, ◌++◌, Option, Some, Ok}
 use Rattle.attempts.specs.declared.Value.{Value}
-use Rattle.formats.specs.declared.events.Event.{Event}
-use Rattle.texts.specs.declared.command.Command.{Command}
-use Rattle.texts.specs.declared.command.RemarkedCommand.{RemarkedCommand}
-use Rattle.texts.specs.Fields.{was_of}
-use Rattle.texts.specs.Reading.{command_of}
+use Rattle.formats.specs.declared.{events.Event.Event, styles.SheetStyle.SheetStyle as Style}
+use Rattle.texts.specs.declared.command.{Command.Command, RemarkedCommand.RemarkedCommand}
+use Rattle.texts.specs.{Fields.was_of, Reading.command_of}
 use Rattle.texts.specs.Spelling.{AreCounted, IsFitTold, told_spelling, was_text}
 use Rattle.commands.specs.Accepted.{edition_in}
 use Rattle.commands.specs.History.{History, after_in, answer_in, history_in}
-use Rattle.formats.specs.declared.styles.SheetStyle.{SheetStyle as Style}
 use Rattle.sheets.specs.Sheet.{sheet}
 
 -- up to five values that can count are read back from the field of a card that says that they do
@@ -25,8 +22,7 @@ with_told c remark = record { command = c; remark = remark }
 abbrev pub IsOneCommand : List ℕ → List ℕ → Type 0
 IsOneCommand one other =
     (c : Command) × (remark : Option (List ℕ)) × (instead : Option (List ℕ))
-    × (command_of one ≡ Ok (with_told c remark))
-    × (command_of other ≡ Ok (with_told c instead))
+    × (command_of one ≡ Ok (with_told c remark)) × (command_of other ≡ Ok (with_told c instead))
 
 -- Whatever is shown beside a command, if anything is, its text spells that command. And once
 -- edition 4 holds, two texts that differ in their remarks alone are answered alike and come to the
@@ -63,7 +59,6 @@ pub record NothingStandsOnRemarks : Type 0 where
       → answer_in k (history_in k (entries ++ one)) id text
       ≡ answer_in k (history_in k (entries ++ other)) id text
   pub sheets : (k : ℕ) (entries one other : List (ℕ × List ℕ)) (style : Style) (event : Event)
-      (round position : ℕ)
-      → 4 ≤ edition_in (history_in k entries).accepted → AreToldAlike one other
+      (round position : ℕ) → 4 ≤ edition_in (history_in k entries).accepted → AreToldAlike one other
       → sheet style (history_in k (entries ++ one)).accepted event round position
       ≡ sheet style (history_in k (entries ++ other)).accepted event round position

@@ -1,24 +1,14 @@
 -- Worked by hand: lists of commands that meet the premises of the laws.
-use Rattle.std.specs.Prelude.{◌≡◌, ◌≤◌, ℕ, false, true, List, [], ◌∷◌, ◌++◌, All, codes, None}
-use Rattle.std.specs.Prelude.{Some}
+use Rattle.std.specs.Prelude.{◌≡◌, ◌≤◌, ℕ, false, true, List, [], ◌∷◌, ◌++◌, All, codes, None, Some}
 use Rattle.std.specs.List.{list_any}
-use Rattle.attempts.specs.declared.Unit.TheVariants as measure
 use Rattle.attempts.specs.declared.Value.{Value}
-use Rattle.attempts.specs.declared.Value.TheVariants as value
-use Rattle.formats.specs.declared.advance.Advance.TheVariants.{Final}
-use Rattle.formats.specs.declared.events.Event.TheVariants.{Cube3}
-use Rattle.formats.specs.declared.events.Format.TheVariants.{Ao5, Bo3}
-use Rattle.texts.specs.declared.answer.Code.TheVariants as code
-use Rattle.texts.specs.declared.command.Command.{Command}
+use Rattle.formats.specs.declared.{advance.Advance.TheVariants.Final, events.Format.TheVariants.Bo3}
+use Rattle.formats.specs.declared.events.{Event.TheVariants.Cube3, Format.TheVariants.Ao5}
+use Rattle.texts.specs.declared.command.{Command.Command, CardEntry.CardEntry, RoundId.RoundId}
 use Rattle.texts.specs.declared.command.Command.TheVariants.{Register, Open, Enter, Correct, Close}
 use Rattle.texts.specs.declared.command.Command.TheVariants.{SetEdition, Reopen, Card, Fix, Cancel}
-use Rattle.texts.specs.declared.command.CardEntry.{CardEntry}
-use Rattle.texts.specs.declared.command.RoundId.{RoundId}
-use Rattle.texts.specs.declared.command.Entered.{Entered}
-use Rattle.texts.specs.declared.command.Entered.TheVariants as entered
-use Rattle.texts.specs.declared.command.Settings.{Settings}
-use Rattle.texts.specs.Fields.{attempt_entry, card_entry, round_id}
-use Rattle.texts.specs.Spelling.{spelling}
+use Rattle.texts.specs.declared.command.{Entered.Entered, Settings.Settings}
+use Rattle.texts.specs.{Fields.attempt_entry, Fields.card_entry, Fields.round_id, Spelling.spelling}
 use Rattle.rounds.specs.Tables.{Table}
 use Rattle.commands.specs.Accepted.{edition_in, is_cancelled, opened, refusal, round_by}
 use Rattle.commands.specs.History.{history_in}
@@ -26,6 +16,10 @@ use Rattle.card_laws.specs.Accepting.{AreAccepted, first_refusal}
 use Rattle.card_laws.specs.GivingBack.{AreOverTheSame, is_shown}
 use Rattle.card_laws.specs.Holding.{entrant_with, held, names, values_left}
 use Rattle.card_laws.specs.OverNothing.{HasRules, StandsBare, attempts_from, first_card}
+use Rattle.attempts.specs.declared.Unit.TheVariants as measure
+use Rattle.attempts.specs.declared.Value.TheVariants as value
+use Rattle.texts.specs.declared.answer.Code.TheVariants as code
+use Rattle.texts.specs.declared.command.Entered.TheVariants as entered
 
 abbrev pub id : RoundId
 id = round_id Cube3 1
@@ -95,8 +89,7 @@ fix = card_entry id 1 counted (None ∷ Some (time 998 0) ∷ None ∷ None ∷ 
 
 abbrev pub fixed_back : Command
 fixed_back =
-    Fix
-    (card_entry id 1
+    Fix (card_entry id 1
     (value.Number 1043 ∷ value.Number 998 ∷ value.Dnf ∷ value.Number 1200 ∷ value.Number 1131 ∷ [])
     (None ∷ Some (time 998 1) ∷ None ∷ None ∷ None ∷ []))
 
@@ -181,5 +174,4 @@ pub record WorksTakenBack : Type 0 where
 -- edition 4 holds after the text that sets it
 abbrev pub SetsEdition : Type 0
 SetsEdition =
-    (number : ℕ)
-    → 4 ≤ edition_in (history_in 4 ((number, spelling (SetEdition 4)) ∷ [])).accepted
+    (number : ℕ) → 4 ≤ edition_in (history_in 4 ((number, spelling (SetEdition 4)) ∷ [])).accepted

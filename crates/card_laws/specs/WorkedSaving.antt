@@ -2,15 +2,12 @@
 -- second, over what counted before the first, is reported changed.
 use Rattle.std.specs.Prelude.{◌≡◌, List, [], ◌∷◌, codes, Some, None}
 use Rattle.acceptor.specs.declared.entry.Entry.{Entry}
-use Rattle.attempts.specs.declared.Value.TheVariants as value
 use Rattle.formats.specs.declared.events.Event.TheVariants.{Cube3}
 use Rattle.texts.specs.Fields.{card_entry, round_id}
-use Rattle.texts.specs.declared.command.CardEntry.{CardEntry}
-use Rattle.texts.specs.declared.command.Command.TheVariants.{Card}
+use Rattle.texts.specs.declared.command.{CardEntry.CardEntry, Command.TheVariants.Card}
+use Rattle.outbox.specs.{Cards.Says, States.state_of, Worked.entry}
+use Rattle.attempts.specs.declared.Value.TheVariants as value
 use Rattle.texts.specs.declared.command.Entered.TheVariants as entered
-use Rattle.outbox.specs.Cards.{Says}
-use Rattle.outbox.specs.States.{state_of}
-use Rattle.outbox.specs.Worked.{entry}
 use Rattle.outbox.specs.declared.state.ItemState.TheVariants as state
 
 abbrev pub first : Entry
@@ -22,8 +19,7 @@ second = entry 7 (codes "CARD 333 1 1 1043 =/T:1200:0")
 -- 10.43 counts, and a second attempt of 9.98 with a penalty is written beside it
 abbrev pub card : CardEntry
 card =
-    card_entry (round_id Cube3 1) 1 (value.Number 1043 ∷ [])
-    (None ∷ Some (entered.Time 998 1) ∷ [])
+    card_entry (round_id Cube3 1) 1 (value.Number 1043 ∷ []) (None ∷ Some (entered.Time 998 1) ∷ [])
 
 abbrev pub hall_log : List Entry
 hall_log =

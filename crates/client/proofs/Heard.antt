@@ -1,17 +1,11 @@
 -- The first frame of what a reader of frames was fed.
-use Rattle.std.proofs.Common.{◌≡◌, ◌++◌, ◌∙◌, ℕ, List, [], ◌∷◌, Option, None, Some, MatchOption}
-use Rattle.std.proofs.Common.{ap, append_assoc, append-nil, arith, length, refl, subst, sym}
-use Rattle.std.proofs.KnownBytes.{Consumes-trans}
-use Rattle.std.specs.Prelude.{option_to_list}
-use Rattle.std.specs.Global.{Global}
+use Rattle.std.proofs.Common.{◌≡◌, ◌++◌, ◌∙◌, ℕ, List, [], ◌∷◌, Option, None, Some, MatchOption, ap}
+use Rattle.std.proofs.Common.{append_assoc, append-nil, arith, length, refl, subst, sym}
+use Rattle.std.{proofs.KnownBytes.Consumes-trans, specs.Io.KnownBytes.Consumes, specs.List.flat_map}
+use Rattle.std.specs.{Prelude.option_to_list, Global.Global, declared.vec.IntoIter.IntoIter}
 use Rattle.std.specs.Vec.Iter.{into_iter_len, into_iter_steps}
-use Rattle.std.specs.declared.vec.IntoIter.{IntoIter}
-use Rattle.std.specs.Io.KnownBytes.{Consumes}
-use Rattle.std.specs.List.{flat_map}
-use Rattle.wire.specs.declared.frame.Frame.{Frame}
-use Rattle.wire.specs.Spelling.{spelling}
+use Rattle.wire.specs.{declared.frame.Frame.Frame, Spelling.spelling, Stream.keeps}
 use Rattle.wire.specs.Stream.{Front, Reader, Waits, Begins, Breaks, Fed, IsBegun, front, holding}
-use Rattle.wire.specs.Stream.{keeps}
 use Rattle.client.specs.Hearing.{StandsFirst}
 
 keeps_none : (at : Front) (rest : List ℕ) (reader : Reader) → (IsBegun at → ⊥)
@@ -41,10 +35,8 @@ frame_first piece old new f later fed =
 
 -- what the first of the frames that were given says
 pub first_given : (piece : List ℕ) (old new : Reader) (frames later : List Frame)
-    (first : Option Frame)
-    → Fed piece old new frames → frames ≡ option_to_list first ++ later
-    → (first ≡ None → frames ≡ [])
-    → MatchOption first
+    (first : Option Frame) → Fed piece old new frames → frames ≡ option_to_list first ++ later
+    → (first ≡ None → frames ≡ []) → MatchOption first
     ((new ≡ holding (old.held ++ piece)) × (front (old.held ++ piece) ≡ Waits))
     (λ f. StandsFirst f (old.held ++ piece))
 first_given piece old new frames later None fed parts none =

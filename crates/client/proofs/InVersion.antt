@@ -1,13 +1,11 @@
 -- The version of an answer.
 use Rattle.std.proofs.Common.{◌≡◌, Bool, true, false, ◌&&◌}
 use Rattle.std.specs.Prelude.{ℕ, ◌==◌}
-use Rattle.wire.specs.Numbers.{IsFromThree}
-use Rattle.wire.specs.Ranges.{IsBody}
-use Rattle.wire.specs.declared.frame.FrameBody.{FrameBody}
-use Rattle.wire.specs.declared.frame.FrameBody.TheVariants as what
-use Rattle.wire.specs.declared.values.Version.{Version}
+use Rattle.wire.specs.{Numbers.IsFromThree, Ranges.IsBody}
+use Rattle.wire.specs.declared.{frame.FrameBody.FrameBody, values.Version.Version}
 use Rattle.client.specs.Answers.{fits, is_entries, is_standing}
 use Rattle.client.specs.Standings.{AnswersFromThree, IsOfThree}
+use Rattle.wire.specs.declared.frame.FrameBody.TheVariants as what
 
 last_of : (a b c : Bool) → (a && b && c) ≡ true → c ≡ true
 last_of true true c h = h
@@ -20,8 +18,7 @@ standing_in_three v (what.Standing standing) h body = body.0
 standing_in_three v _ h body = absurd (let k : false ≡ true = h in cc)
 
 entries_in_three : (v : Version) (position : ℕ) (given : FrameBody)
-    → is_entries position given ≡ true
-    → IsBody v given → IsFromThree v
+    → is_entries position given ≡ true → IsBody v given → IsFromThree v
 entries_in_three v position (what.Entries from len entries) h body = body.0
 entries_in_three v position _ h body = absurd (let k : false ≡ true = h in cc)
 

@@ -1,9 +1,8 @@
 -- Which frame answers a client's, and what the client makes of a frame (the project's own).
 use Rattle.std.specs.Prelude.{ℕ, Bool, false, true, ◌==◌, ◌&&◌, if◌then◌else◌, Result, Ok, Err}
-use Rattle.wire.specs.declared.frame.Frame.{Frame}
-use Rattle.wire.specs.declared.frame.FrameBody.{FrameBody}
-use Rattle.wire.specs.declared.frame.FrameBody.TheVariants as what
+use Rattle.wire.specs.declared.frame.{Frame.Frame, FrameBody.FrameBody}
 use Rattle.client.specs.declared.fault.ClientFault.{ClientFault}
+use Rattle.wire.specs.declared.frame.FrameBody.TheVariants as what
 use Rattle.client.specs.declared.fault.ClientFault.TheVariants as fault
 
 abbrev pub is_taken : ℕ → FrameBody → Bool

@@ -1,10 +1,8 @@
 -- What a client hears first (the project's own).
 use Rattle.std.specs.Prelude.{◌≡◌, ◌⊎◌, ℕ, List, ◌++◌, MatchOption, Option}
 use Rattle.std.specs.Io.KnownBytes.{Consumes}
-use Rattle.wire.specs.declared.fault.WireFault.{WireFault}
-use Rattle.wire.specs.declared.frame.Frame.{Frame}
-use Rattle.wire.specs.Ranges.{IsFrame}
-use Rattle.wire.specs.Spelling.{spelling}
+use Rattle.wire.specs.declared.{fault.WireFault.WireFault, frame.Frame.Frame}
+use Rattle.wire.specs.{Ranges.IsFrame, Spelling.spelling}
 use Rattle.wire.specs.Stream.{Waits, Breaks, Reader, front, holding, IsBegun, IsOfStream}
 use Rattle.client.specs.declared.fault.ClientFault.{ClientFault}
 use Rattle.client.specs.declared.fault.ClientFault.TheVariants as fault

@@ -1,16 +1,14 @@
 -- What a client prints of an answer, and of a fault (the project's own).
 use Rattle.std.specs.Prelude.{ℕ, List, [], ◌++◌, codes, decimal}
-use Rattle.texts.specs.Codes.{code_name}
-use Rattle.texts.specs.declared.answer.Answer.{Answer}
-use Rattle.texts.specs.declared.answer.Answer.TheVariants as answer
+use Rattle.texts.specs.{Codes.code_name, declared.answer.Answer.Answer}
 use Rattle.client.specs.declared.fault.ClientFault.{ClientFault}
-use Rattle.client.specs.declared.fault.ClientFault.TheVariants as fault
-use Rattle.wire.specs.declared.values.ClientRefusal.{ClientRefusal}
-use Rattle.wire.specs.declared.values.ClientRefusal.TheVariants as refusal
+use Rattle.wire.specs.declared.values.{ClientRefusal.ClientRefusal, CommandState.CommandState}
 use Rattle.wire.specs.declared.frame.FrameBody.{FrameBody}
-use Rattle.wire.specs.declared.frame.FrameBody.TheVariants as what
-use Rattle.wire.specs.declared.values.CommandState.{CommandState}
 use Rattle.wire.specs.declared.values.CommandState.TheVariants.{Unknown, Pending, Done}
+use Rattle.texts.specs.declared.answer.Answer.TheVariants as answer
+use Rattle.client.specs.declared.fault.ClientFault.TheVariants as fault
+use Rattle.wire.specs.declared.values.ClientRefusal.TheVariants as refusal
+use Rattle.wire.specs.declared.frame.FrameBody.TheVariants as what
 
 abbrev pub answer_name : Answer → List ℕ
 answer_name answer.Done = codes "Done"

@@ -1,13 +1,11 @@
 -- How a client asks a desk how it is, for its log, and what becomes of a command (the project's
 -- own).
 use Rattle.std.specs.Prelude.{◌≡◌, ℕ, true}
-use Rattle.wire.specs.Numbers.{IsFromThree}
-use Rattle.wire.specs.Ranges.{IsFrame}
-use Rattle.wire.specs.declared.frame.Frame.{Frame}
-use Rattle.wire.specs.declared.frame.FrameBody.{FrameBody}
-use Rattle.wire.specs.declared.frame.FrameBody.TheVariants as what
+use Rattle.wire.specs.{Numbers.IsFromThree, Ranges.IsFrame}
+use Rattle.wire.specs.declared.frame.{Frame.Frame, FrameBody.FrameBody}
 use Rattle.wire.specs.declared.values.Version.TheVariants.{Three, Five}
 use Rattle.client.specs.Answers.{answers}
+use Rattle.wire.specs.declared.frame.FrameBody.TheVariants as what
 
 -- a request of a client, which is 0, to a desk of a hall, in version 3
 abbrev pub request_in_three : (hall desk : ℕ) → FrameBody → Frame

@@ -1,10 +1,8 @@
 -- Which version of the wire a request needs (the project's own).
 use Rattle.std.specs.Prelude.{nat_le, if◌then◌else◌}
-use Rattle.formats.specs.declared.events.Event.{Event}
-use Rattle.formats.specs.Events.{event_number}
+use Rattle.formats.specs.{declared.events.Event.Event, Events.event_number}
 use Rattle.wire.specs.Numbers.{last_event}
-use Rattle.wire.specs.declared.values.Version.{Version}
-use Rattle.wire.specs.declared.values.Version.TheVariants.{One, Two}
+use Rattle.wire.specs.declared.values.Version.{Version, TheVariants.One, TheVariants.Two}
 
 -- the first version that has a frame for the sheets of an event: only the event after the last one
 -- of version 1 needs version 2

@@ -1,6 +1,5 @@
 -- The arguments of a program (the project's own).
-use Rattle.std.specs.Prelude.{List, map}
-use Rattle.std.specs.Borrow.{Bor}
+use Rattle.std.specs.{Prelude.List, Prelude.map, Borrow.Bor}
 use Rattle.clap.specs.Words.{Text}
 
 -- the texts of borrowed arguments

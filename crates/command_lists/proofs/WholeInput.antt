@@ -3,8 +3,7 @@ use Rattle.std.proofs.Common.{◌≡◌, ℕ, List, [], ◌++◌, Option, None, 
 use Rattle.std.proofs.Common.{append-nil, true, false}
 use Rattle.lines.specs.command_file.Commands.{Numbered, ReadsCommands, StopsReading, commands_of}
 use Rattle.command_lists.specs.Lists.{IsReadFrom, fit, shorts, texts_in}
-use Rattle.lines.specs.Lines.{is_within}
-use Rattle.lines.specs.Reading.{IsAbove}
+use Rattle.lines.specs.{Lines.is_within, Reading.IsAbove}
 use Rattle.lines.specs.declared.fault.RunFault.TheVariants as fault
 
 -- what was read is all of the bytes

@@ -1,11 +1,9 @@
 -- What is answered to commands that are sent together (the project's own).
-use Rattle.std.specs.Prelude.{ℕ, suc, Bool, true, false, codes, decimal, if◌then◌else◌}
-use Rattle.std.specs.Prelude.{List, [], ◌∷◌, ◌++◌, Option, None, Some, slice_get}
+use Rattle.std.specs.Prelude.{ℕ, suc, Bool, true, false, codes, decimal, if◌then◌else◌, List, []}
+use Rattle.std.specs.Prelude.{◌∷◌, ◌++◌, Option, None, Some, slice_get}
 use Rattle.std.specs.Str.{is_utf8}
-use Rattle.texts.specs.meanings.Meanings.{meaning_of}
-use Rattle.texts.specs.declared.answer.Answer.{Answer}
-use Rattle.texts.specs.declared.answer.Answer.TheVariants.{Done, Refused}
-use Rattle.texts.specs.declared.Code.{Code}
+use Rattle.texts.specs.{meanings.Meanings.meaning_of, declared.Code.Code}
+use Rattle.texts.specs.declared.answer.Answer.{Answer, TheVariants.Done, TheVariants.Refused}
 
 -- a command is accepted
 abbrev pub is_done : Answer → Bool

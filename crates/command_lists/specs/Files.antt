@@ -1,9 +1,7 @@
 -- Commands from a competition's file (the project's own).
 use Rattle.std.specs.Prelude.{◌≡◌, ℕ, List}
 use Rattle.texts.specs.declared.command.Command.{Command}
-use Rattle.wcif.specs.declared.options.Options.{Options}
-use Rattle.wcif.specs.Files.{FileFails, SetsUp}
-use Rattle.wcif.specs.Lines.{lines}
+use Rattle.wcif.specs.{declared.options.Options.Options, Files.FileFails, Files.SetsUp, Lines.lines}
 use Rattle.command_lists.specs.declared.file.FileLines.{FileLines}
 use Rattle.command_lists.specs.declared.file.FileLines.TheVariants.{Lines, Refused}
 

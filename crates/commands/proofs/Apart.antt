@@ -1,27 +1,22 @@
 -- Those who wait for a place in a round are not in it, whatever changes it.
-use Rattle.std.proofs.Common.{◌≡◌, ℕ, ◌==◌, ◌||◌, ◌&&◌, not, Bool, true, false, cond, List}
-use Rattle.std.proofs.Common.{[], ◌∷◌, map, filter, drop, Option, Some}
-use Rattle.std.proofs.Common.{None, option_map, Result, Ok, Err, IfOk, refl, sym, ap, ◌∙◌, subst}
-use Rattle.std.proofs.Common.{arith, eqb-true}
-use Rattle.std.specs.Prelude.{nat_eq}
-use Rattle.std.specs.Option.{option_or}
+use Rattle.std.proofs.Common.{◌≡◌, ℕ, ◌==◌, ◌||◌, ◌&&◌, not, Bool, true, false, cond, List, [], ◌∷◌}
+use Rattle.std.proofs.Common.{map, filter, drop, Option, Some, None, option_map, Result, Ok, Err}
+use Rattle.std.proofs.Common.{IfOk, refl, sym, ap, ◌∙◌, subst, arith, eqb-true}
+use Rattle.std.specs.{Prelude.nat_eq, Option.option_or}
 use Rattle.std.specs.List.{list_any, IsDistinct, AllByRecursion}
 use Rattle.std.proofs.lemmas.Bool.{false≢true}
-use Rattle.std.proofs.lemmas.Bool.Decides.{nat_tests}
+use Rattle.std.proofs.lemmas.{Bool.Decides.nat_tests, List.Folds.list_any-append}
 use Rattle.std.proofs.lemmas.List.Elements.{All-from_recursion, recursion_from_All, All-nil}
-use Rattle.std.proofs.lemmas.List.Folds.{list_any-append}
 use Rattle.attempts.specs.declared.Value.{Value}
-use Rattle.formats.specs.declared.advance.Advance.{Advance}
-use Rattle.formats.specs.declared.events.Event.{Event}
+use Rattle.formats.specs.declared.{advance.Advance.Advance, events.Event.Event}
 use Rattle.texts.specs.declared.command.Settings.{Settings}
 use Rattle.rounds.specs.Tables.{Entrant, Table, changed_of, has_number, is_entered, with_entrant}
 use Rattle.rounds.specs.Tables.{without_entrant, withdrawn, entrant, standings}
 use Rattle.advancement.specs.Advancing.{has_result, advances, holds_of, goes_on, advancing}
 use Rattle.advancement.specs.Waiting.{waits, stays_out, waiting}
-use Rattle.commands.specs.declared.kept_rounds.KeptRound.{KeptRound}
+use Rattle.commands.{specs.declared.kept_rounds.KeptRound.KeptRound, proofs.Newcomers.is_among}
 use Rattle.commands.specs.model.Kept.{kept_value, waiting_in, AreOthers, AreApart, IsApart}
 use Rattle.commands.specs.model.Kept.{first_of_all, newcomer, table_opened}
-use Rattle.commands.proofs.Newcomers.{is_among}
 
 -- nobody waits
 pub nobody_waits : (t : Table) → AreApart t []
@@ -103,8 +98,7 @@ apart_exit t n (m ∷ ns) a =
     record {
       once = once.1;
       others =
-          All-from_recursion
-          (λ k. is_entered (with_entrant (without_entrant t n) m) k ≡ false) ns
+          All-from_recursion (λ k. is_entered (with_entrant (without_entrant t n) m) k ≡ false) ns
           (behind t n m ns others.1 once.0);
     }
 
@@ -116,8 +110,7 @@ apart_opened e settings first ns once others =
     record {
       once = once;
       others =
-          All-from_recursion (λ n. is_entered (table_opened e settings first) n ≡ false) ns
-          (go ns
+          All-from_recursion (λ n. is_entered (table_opened e settings first) n ≡ false) ns (go ns
           (recursion_from_All (λ n. list_any (λ other. n == other) first ≡ false) ns others));
     }
   where
@@ -137,11 +130,9 @@ apart_added None false round waits old new = tt
 
 -- a round that is changed, or not
 pub apart_changed : (b : Bool) (change : Settings × Table → Settings × Table)
-    (round : Option (Settings × Table)) (waiting : Option (List ℕ))
-    → IsApart round waiting
+    (round : Option (Settings × Table)) (waiting : Option (List ℕ)) → IsApart round waiting
     → ((x : Settings × Table) (ns : List ℕ) → b ≡ true → waiting ≡ Some ns → AreApart x.1 ns
-    → AreApart (change x).1 ns)
-    → IsApart (cond b (option_map change round) round) waiting
+    → AreApart (change x).1 ns) → IsApart (cond b (option_map change round) round) waiting
 apart_changed true change None waiting old keeps = tt
 apart_changed true change (Some x) None old keeps = tt
 apart_changed true change (Some x) (Some ns) old keeps = keeps x ns refl refl old
@@ -159,8 +150,7 @@ none_kept n p out (m ∷ ms) = step (p m) refl (none_kept n p out ms)
     step false is rest = rest
     step true is rest = by (n == m) refl
       where
-        by : (t : Bool) → (n == m) ≡ t
-            → ((n == m) || list_any (λ k. n == k) (filter p ms)) ≡ false
+        by : (t : Bool) → (n == m) ≡ t → ((n == m) || list_any (λ k. n == k) (filter p ms)) ≡ false
         by true same =
             absurd (false≢true (sym out ∙ ap p (eqb-true n m same) ∙ is))
         by false other = ap (λ (t : Bool). t || list_any (λ k. n == k) (filter p ms)) other ∙ rest
@@ -183,8 +173,7 @@ stays_behind t advance n = step (entrant t n)
 pub others_wait : (t : Table) (advance : Advance) (ns : List ℕ) → ns ≡ waiting t advance
     → AreOthers (advancing t advance) ns
 others_wait t advance ns is =
-    subst (AreOthers (advancing t advance)) (sym is)
-    (All-from_recursion
+    subst (AreOthers (advancing t advance)) (sym is) (All-from_recursion
     (λ n. list_any (λ other. n == other) (advancing t advance) ≡ false) (waiting t advance)
     (go (standings t)))
   where

@@ -1,21 +1,17 @@
 -- What it leaves to take back that a round was opened.
-use Rattle.std.proofs.Common.{◌≡◌, ℕ, Bool, true, false, ◌||◌, not, cond, List, [], ◌∷◌}
-use Rattle.std.proofs.Common.{◌++◌}
+use Rattle.std.proofs.Common.{◌≡◌, ℕ, Bool, true, false, ◌||◌, not, cond, List, [], ◌∷◌, ◌++◌}
 use Rattle.std.proofs.Common.{Option, Some, None, is_some, refl, sym, ap, ◌∙◌, arith, append_assoc}
 use Rattle.std.proofs.Common.{eqb-true}
 use Rattle.std.proofs.lemmas.Bool.{false≢true}
-use Rattle.formats.specs.declared.events.Event.{Event}
-use Rattle.formats.proofs.SameEvent.{same_event-equal}
+use Rattle.formats.{specs.declared.events.Event.Event, proofs.SameEvent.same_event-equal}
 use Rattle.texts.specs.declared.answer.Code.{Code}
-use Rattle.texts.specs.declared.answer.Code.TheVariants as code
-use Rattle.texts.specs.declared.command.Command.{Command}
+use Rattle.texts.specs.declared.command.{Command.Command, RoundId.RoundId, Settings.Settings}
 use Rattle.texts.specs.declared.command.Command.TheVariants.{Open, Cancel}
-use Rattle.texts.specs.declared.command.RoundId.{RoundId}
-use Rattle.texts.specs.declared.command.Settings.{Settings}
 use Rattle.rounds.specs.Tables.{Table}
 use Rattle.commands.specs.Accepted.{is_of, round_of, round_by, refusal}
 use Rattle.commands.specs.OpeningLaws.{CancelsAsBefore}
 use Rattle.commands.proofs.EachCommand.{round_same, round_cancel}
+use Rattle.texts.specs.declared.answer.Code.TheVariants as code
 
 -- a round that may be opened is not
 not_open : (cs : List Command) (id : RoundId) (settings : Settings)
@@ -47,8 +43,7 @@ cancels_as_before cs id settings e r allowed =
     step true here =
         let event : e ≡ id.event = same_event-equal e id.event (grind arith) in
         let round : r ≡ id.round = eqb-true r id.round (grind arith) in
-        sym
-        (ap (λ (f : Event). round_of cs f r) event
+        sym (ap (λ (f : Event). round_of cs f r) event
         ∙ ap (λ (s : ℕ). round_of cs id.event s) round
         ∙ not_open cs id settings allowed)
     step false other = other_opened cs id settings e r other

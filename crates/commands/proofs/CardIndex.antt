@@ -1,193 +1,87 @@
 -- What a card makes of the index, and how it is refused there.
 use Rattle.std.proofs.Common.{◌≡◌, ℕ, suc, ◌+◌, ◌≤◌, Bool, true, false, not, ◌&&◌, ◌==◌, cond}
-use Rattle.std.proofs.Common.{unwrap_or, List}
-use Rattle.std.proofs.Common.{[], ◌∷◌, ◌++◌, get_or, set, find, Option, Some, None, option_map}
-use Rattle.std.proofs.Common.{is_some, All, refl, sym, ap, ◌∙◌, subst, arith, eqb-true, add-one}
+use Rattle.std.proofs.Common.{unwrap_or, List, [], ◌∷◌, ◌++◌, get_or, set, Option, Some, None}
+use Rattle.std.proofs.Common.{option_map, is_some, All, refl, sym, ap, ◌∙◌, subst, add-one}
 use Rattle.std.specs.Option.{option_or, option_map_or, option_and_then}
 use Rattle.std.proofs.lemmas.Bool.{false≢true}
-use Rattle.attempts.specs.declared.Value.{Value}
-use Rattle.attempts.specs.Attempts.{IsInRangeOf}
-use Rattle.formats.specs.declared.advance.Advance.{Advance}
-use Rattle.formats.specs.declared.events.Event.{Event}
+use Rattle.attempts.specs.{declared.Value.Value, Attempts.IsInRangeOf}
+use Rattle.formats.specs.declared.{advance.Advance.Advance, events.Event.Event}
 use Rattle.formats.specs.Events.{unit_of}
-use Rattle.formats.proofs.SameEvent.{same_event-equal}
-use Rattle.rounds.specs.declared.fault.FixFault.{FixFault}
-use Rattle.rounds.specs.Rows.{AreValues}
-use Rattle.rounds.specs.Tables.{Table, entrant, changed, with_values, set_fault, fix_fault}
-use Rattle.rounds.specs.Tables.{started}
-use Rattle.texts.specs.declared.answer.Code.{Code}
-use Rattle.texts.specs.declared.answer.Code.TheVariants as code
-use Rattle.texts.specs.declared.command.CardEntry.{CardEntry}
-use Rattle.texts.specs.declared.command.Command.{Command}
+use Rattle.rounds.specs.{declared.fault.FixFault.FixFault, Rows.AreValues}
+use Rattle.rounds.specs.Tables.{Table, entrant, changed, with_values, set_fault, fix_fault, started}
+use Rattle.texts.specs.declared.{answer.Code.Code, command.Entered.Entered}
+use Rattle.texts.specs.declared.command.{Settings.Settings, CardEntry.CardEntry, Command.Command}
 use Rattle.texts.specs.declared.command.Command.TheVariants.{Card, Fix}
-use Rattle.texts.specs.declared.command.Entered.{Entered}
-use Rattle.texts.specs.declared.command.Settings.{Settings}
-use Rattle.commands.specs.declared.index.Index.{Index}
-use Rattle.commands.specs.declared.kept_rounds.KeptRound.{KeptRound}
-use Rattle.commands.specs.declared.solutions.Solutions.{Solutions}
-use Rattle.commands.specs.Accepted.{is_of, is_registered, is_wrong, lacks_scramble, has_outcome}
-use Rattle.commands.specs.Accepted.{is_solved, solving_at, values_now, counts_in, card_values}
-use Rattle.commands.specs.Accepted.{unfit_card_refusal, seen_refusal, set_code, fix_code, refusal}
-use Rattle.commands.specs.Accepted.{but_for, breaks_rounds_rule, competitors_seen, round_by}
-use Rattle.commands.specs.Accepted.{round_of}
+use Rattle.commands.specs.declared.{index.Index.Index, kept_rounds.KeptRound.KeptRound}
+use Rattle.commands.specs.{declared.solutions.Solutions.Solutions, model.Cards.with_outcomes}
+use Rattle.commands.specs.Accepted.{round_of, is_of, is_registered, is_wrong, lacks_scramble}
+use Rattle.commands.specs.Accepted.{has_outcome, is_solved, solving_at, values_now, counts_in}
+use Rattle.commands.specs.Accepted.{card_values, unfit_card_refusal, seen_refusal, set_code}
+use Rattle.commands.specs.Accepted.{fix_code, refusal, but_for, breaks_rounds_rule}
+use Rattle.commands.specs.{Accepted.competitors_seen, Accepted.round_by, model.Solved.KeepsNotes}
 use Rattle.commands.specs.model.Cards.{IsReadCard, scrambles_of, state_refusal, early_refusal}
-use Rattle.commands.specs.model.Cards.{with_outcomes}
-use Rattle.commands.specs.model.Kept.{is_round, kept_value, kept_round, kept_waiting}
-use Rattle.commands.specs.model.Kept.{kept_solved, kept_next, kept_competitors, place_in}
-use Rattle.commands.specs.model.Kept.{waiting_in, seen_in, solved_in, AreRounds, IsIndexOf}
-use Rattle.commands.specs.model.Kept.{IsKeptAt, ChangesRound, HasUnit, kept_by}
-use Rattle.commands.specs.model.Solved.{is_noted, KeepsNotes}
-use Rattle.commands.proofs.Apart.{apart_changed, apart_same, changed_stays}
+use Rattle.commands.specs.model.{Solved.is_noted, Kept.IsIndexOf, Kept.IsKeptAt, Kept.HasUnit}
+use Rattle.commands.specs.model.Kept.{kept_value, kept_solved, kept_next, kept_competitors}
+use Rattle.commands.specs.model.Kept.{place_in, waiting_in, seen_in, solved_in, AreRounds}
+use Rattle.commands.proofs.{Apart.changed_stays, KeptLemmas.alike, OneMore.Besides, Units.kept_unit}
+use Rattle.commands.proofs.KeptLemmas.{nested, kept_is, round_as_before, IsSetIn, set_in, told}
 use Rattle.commands.proofs.CardRounds.{IsOfCard, round_dealt, solved_dealt}
-use Rattle.commands.proofs.CardSteps.{card_in_range, read_twice}
-use Rattle.commands.proofs.Exits.{waiting_same}
-use Rattle.commands.proofs.Indexed.{scrambles_kept, kept_as_before}
-use Rattle.commands.proofs.KeptLemmas.{kept_is, round_set_to, round_as_before}
-use Rattle.commands.proofs.OneMore.{cancels_none}
-use Rattle.commands.proofs.Registrations.{AreCompetitors-other}
-use Rattle.commands.proofs.RoundsRule.{breaks_alike}
-use Rattle.commands.proofs.Seen.{competitors_alike, seen_same}
-use Rattle.commands.proofs.Units.{kept_unit}
+use Rattle.commands.proofs.{CardSteps.card_in_range, CardSteps.read_twice, Seen.competitors_alike}
+use Rattle.commands.proofs.Indexed.{kept_as_before, rounds_more, same_entered, there_by}
+use Rattle.commands.proofs.{Registrations.AreCompetitors-other, RoundsRule.breaks_alike}
+use Rattle.texts.specs.declared.answer.Code.TheVariants as code
 
 -- A round with other values of a card's number, and what is noted of it
 
 module _ (cs : List Command) (c : Command) (card : CardEntry) (deals : IsOfCard c card)
     (xs : List KeptRound) (i : ℕ) (old : KeptRound)
     (at : IsKeptAt xs card.id.event card.id.round i) (there : old ≡ get_or xs i old)
-    (are : AreRounds cs xs) (table : Table) (solutions : Solutions)
-    (is : table
+    (are : AreRounds cs xs) (table : Table) (solutions : Solutions) (is : table
     ≡ changed old.table card.number
     (values_now (counts_in old.settings (scrambles_of cs card.id)) 1 card.now))
-    (notes : (m j : ℕ) → 1 ≤ j
-    → is_noted solutions m j
-    ≡ cond (m == card.number)
+    (notes : (m j : ℕ) → 1 ≤ j → is_noted solutions m j ≡ cond (m == card.number)
     (unwrap_or (solving_at j 1 card.now) (is_noted old.solutions m j))
     (is_noted old.solutions m j)) where
-  -- the round with the other table alone, and with the notes too
-  abbrev quiet : KeptRound
-  quiet = record old { table = table }
-
   abbrev new : KeptRound
   new = record old { table = table; solutions = solutions }
 
   abbrev change : Settings × Table → Settings × Table
   change = with_outcomes (scrambles_of cs card.id) card
 
-  same : ChangesRound card.id.event card.id.round change xs (set xs i quiet)
-  same =
-      round_set_to xs card.id.event card.id.round i old old.settings table change at there
-      (ap (λ (t : Table). let round : Settings × Table = (old.settings, t) in round) is)
-
-  found : (x : KeptRound) → x.id.event ≡ old.id.event → x.id.round ≡ old.id.round → (f : Event)
-      (s : ℕ)
-      → find (is_round f s) (set xs i x)
-      ≡ cond (is_of f s card.id) (Some x) (find (is_round f s) xs)
-  found x event round f s =
-      at.changed old x (event ∙ ap (λ (y : KeptRound). y.id.event) there)
-      (round ∙ ap (λ (y : KeptRound). y.id.round) there) f s
-
-  -- what is looked up alike in both
-  lift : {X : Type 0} (look : Option KeptRound → X) → look (Some new) ≡ look (Some quiet)
-      → (f : Event) (s : ℕ)
-      → look (find (is_round f s) (set xs i new)) ≡ look (find (is_round f s) (set xs i quiet))
-  lift look alike f s =
-      ap look (found new refl refl f s) ∙ step (is_of f s card.id)
-      ∙ sym (ap look (found quiet refl refl f s))
-    where
-      step : (b : Bool)
-          → look (cond b (Some new) (find (is_round f s) xs))
-          ≡ look (cond b (Some quiet) (find (is_round f s) xs))
-      step true = alike
-      step false = refl
-
-  rounds : (f : Event) (s : ℕ)
-      → kept_round f s (set xs i new)
-      ≡ cond (is_of f s card.id) (option_map change (kept_round f s xs)) (kept_round f s xs)
-  rounds f s = lift (option_map kept_value) refl f s ∙ same.rounds f s
-
-  waiting : (f : Event) (s : ℕ) → kept_waiting f s (set xs i new) ≡ kept_waiting f s xs
-  waiting f s = lift (option_map waiting_in) refl f s ∙ same.waiting f s
-
-  -- the notes of the round that were there
-  noted : (f : Event) (s j m : ℕ) → is_of f s card.id ≡ true
-      → is_noted old.solutions m j ≡ kept_solved f s j m xs
-  noted f s j m here =
-      sym
-      (ap (λ o. option_map_or (solved_in j m) o false)
-      (found quiet refl refl f s
-      ∙ ap (λ (b : Bool). cond b (Some quiet) (find (is_round f s) xs)) here))
-      ∙ same.solved f s j m
-
-  opened : (f : Event) (s : ℕ) → is_of f s card.id ≡ true → is_some (round_of cs f s) ≡ true
-  opened f s here =
-      let event : f ≡ card.id.event = same_event-equal f card.id.event (grind arith) in
-      let round : s ≡ card.id.round = eqb-true s card.id.round (grind arith) in
-      ap is_some
-      (ap (λ (g : Event). round_of cs g s) event
-      ∙ ap (λ (l : ℕ). round_of cs card.id.event l) round
-      ∙ sym (are.rounds card.id.event card.id.round))
-      ∙ at.there
+  sets : IsSetIn card.id.event card.id.round old new xs (set xs i new)
+  sets = set_in xs card.id.event card.id.round i old new at there refl refl
 
   solved : (f : Event) (s j m : ℕ) → 1 ≤ j
       → kept_solved f s j m (set xs i new) ≡ is_solved (cs ++ c ∷ []) f s j m
   solved f s j m low =
-      ap (λ o. option_map_or (solved_in j m) o false) (found new refl refl f s)
-      ∙ step (is_of f s card.id) refl
-      ∙ sym (solved_dealt c card deals f s j m cs (opened f s))
-    where
-      step : (b : Bool) → is_of f s card.id ≡ b
-          → option_map_or (solved_in j m) (cond b (Some new) (find (is_round f s) xs)) false
-          ≡ cond (is_of f s card.id && m == card.number)
-          (unwrap_or (solving_at j 1 card.now) (is_solved cs f s j m)) (is_solved cs f s j m)
-      step true here =
-          notes m j low
-          ∙ ap
-          (λ (b : Bool).
-          cond (m == card.number) (unwrap_or (solving_at j 1 card.now) b) b)
-          (noted f s j m here ∙ are.solved f s j m low)
-          ∙ ap
-          (λ (b : Bool).
-          cond (b && m == card.number)
-          (unwrap_or (solving_at j 1 card.now) (is_solved cs f s j m)) (is_solved cs f s j m))
-          (sym here)
-      step false other =
-          are.solved f s j m low
-          ∙ ap
-          (λ (b : Bool).
-          cond (b && m == card.number)
-          (unwrap_or (solving_at j 1 card.now) (is_solved cs f s j m)) (is_solved cs f s j m))
-          (sym other)
+      told card.id.event card.id.round old new xs (set xs i new) sets (λ o. option_map_or
+      (solved_in j m) o false)
+      (λ (b : Bool). cond (m == card.number) (unwrap_or (solving_at j 1 card.now) b) b)
+      (notes m j low) f s
+      ∙ ap (λ (b : Bool).
+      cond (is_of f s card.id)
+      (cond (m == card.number) (unwrap_or (solving_at j 1 card.now) b) b) b)
+      (are.solved f s j m low)
+      ∙ nested (is_of f s card.id) (m == card.number)
+      (unwrap_or (solving_at j 1 card.now) (is_solved cs f s j m)) (is_solved cs f s j m)
+      ∙ sym (solved_dealt c card deals f s j m cs (there_by cs xs card.id are at.there f s))
 
   rounds_dealt : AreRounds (cs ++ c ∷ []) (set xs i new)
-  rounds_dealt = record {
-    rounds =
-        λ f s. rounds f s
-        ∙ ap (λ (x : Option (Settings × Table)). cond (is_of f s card.id) (option_map change x) x)
-        (are.rounds f s)
-        ∙ sym (round_dealt c card deals f s cs);
-    scrambles =
-        scrambles_kept cs c xs (set xs i new) are (λ f s. cancels_none f s c (deals.opens f s))
-        deals.sets deals.again
-        (λ f s k. lift (option_and_then (place_in k)) refl f s ∙ same.scrambles f s k);
-    waiting =
-        λ f s. waiting f s ∙ are.waiting f s
-        ∙ sym (waiting_same f s cs c (deals.opens f s) (deals.stay f s));
-    apart =
-        λ f s.
-        rw (rounds f s, waiting f s)
-        (apart_changed (is_of f s card.id) change (kept_round f s xs) (kept_waiting f s xs)
-        (are.apart f s)
-        (λ x ns here waits a.
-        apart_same x.1 (change x).1 ns
-        (λ n.
-        changed_stays n card.number
-        (values_now (counts_in x.0 (scrambles_of cs card.id)) 1 card.now) x.1.entrants)
-        a));
-    solved = solved;
-    seen =
-        λ f s. lift (option_map seen_in) refl f s ∙ same.seen f s ∙ are.seen f s
-        ∙ sym (seen_same f s cs c (deals.opens f s));
-  }
+  rounds_dealt =
+      rounds_more cs c card.id.event card.id.round change xs (set xs i new) are deals.only
+      (λ f s. round_dealt c card deals f s cs) (same_entered cs card.id.event card.id.round change
+      (λ x n.
+      changed_stays n card.number
+      (values_now (counts_in x.0 (scrambles_of cs card.id)) 1 card.now) x.1.entrants))
+      (told card.id.event card.id.round old new xs (set xs i new) sets (option_map kept_value)
+      (option_map change)
+      (ap (λ (t : Table). let x : Settings × Table = (old.settings, t) in Some x) is)) (λ f s k.
+      alike card.id.event card.id.round old new xs (set xs i new) sets (option_and_then (place_in
+      k)) refl f s)
+      (alike card.id.event card.id.round old new xs (set xs i new) sets (option_map waiting_in)
+      refl)
+      (alike card.id.event card.id.round old new xs (set xs i new) sets (option_map seen_in) refl)
+      solved
 
 -- In the index
 
@@ -197,54 +91,46 @@ module _ (cs : List Command) (index : Index) (is : IsIndexOf cs index) (card : C
   -- other values of the card's number, by what is read, made and noted
   pub dealt : (c : Command) → IsOfCard c card → (new : Index) (vs : List Value) (table : Table)
       (made solutions : Solutions) (now : List (Option Entered))
-      → new.competitors ≡ index.competitors
-      → new.rounds.opened.items
+      → new.competitors ≡ index.competitors → new.rounds.opened.items
       ≡ set index.rounds.opened.items i (record old { table = table; solutions = solutions })
       → AreValues old.table card.number card.was
       → vs ≡ card_values (scrambles_of cs card.id) card old.settings
       → table ≡ with_values old.table card.number vs
-      → KeepsNotes old.solutions made → now ≡ card.now
-      → ((m j : ℕ) → 1 ≤ j
-      → is_noted solutions m j
+      → KeepsNotes old.solutions made → now ≡ card.now → ((m j : ℕ) → 1 ≤ j → is_noted solutions m j
       ≡ cond (m == card.number) (unwrap_or (solving_at j 1 now) (is_noted made m j))
-      (is_noted made m j))
-      → IsIndexOf (cs ++ c ∷ []) new
+      (is_noted made m j)) → IsIndexOf (cs ++ c ∷ []) new
   dealt c deals new vs table made solutions now competitors items seen values says room same notes =
       record {
         competitors =
-            rw competitors
-            (AreCompetitors-other cs c index.competitors deals.unnamed deals.same is.competitors);
+            rw competitors (AreCompetitors-other cs c index.competitors
+            (λ n. ap (λ (x : Besides). x.0) (deals.only card.id.event card.id.round 0 n))
+            (λ n. ap (λ (x : Besides). x.1) (deals.only card.id.event card.id.round 0 n))
+            is.competitors);
         rounds =
             rw items
             (rounds_dealt cs c card deals index.rounds.opened.items i old at there is.rounds table
-            solutions
-            (says ∙ ap (with_values old.table card.number) values
+            solutions (says ∙ ap (with_values old.table card.number) values
             ∙ sym
             (seen.alone (values_now (counts_in old.settings (scrambles_of cs card.id)) 1 card.now)))
             (λ m j low.
             notes m j low
-            ∙ ap
-            (λ (xs : List (Option Entered)).
+            ∙ ap (λ (xs : List (Option Entered)).
             cond (m == card.number) (unwrap_or (solving_at j 1 xs) (is_noted made m j))
-            (is_noted made m j))
-            same
-            ∙ ap
-            (λ (b : Bool).
-            cond (m == card.number) (unwrap_or (solving_at j 1 card.now) b) b)
-            (room m j)));
+            (is_noted made m j)) same
+            ∙ ap (λ (b : Bool).
+            cond (m == card.number) (unwrap_or (solving_at j 1 card.now) b) b) (room m j)));
       }
 
   -- only room is made for a note
   pub only_room : (new : Index) (made : Solutions) → new.competitors ≡ index.competitors
-      → new.rounds.opened.items
-      ≡ set index.rounds.opened.items i (record old { solutions = made })
+      → new.rounds.opened.items ≡ set index.rounds.opened.items i (record old { solutions = made })
       → KeepsNotes old.solutions made → IsIndexOf cs new
   only_room new made competitors items room =
-      kept_as_before cs index new is competitors
-      (λ f s.
-      rw items
-      (round_as_before index.rounds.opened.items card.id.event card.id.round i old
-      (record old { solutions = made }) at there refl refl refl refl refl room refl refl f s))
+      kept_as_before cs index new is competitors (λ f s.
+      rw items (round_as_before index.rounds.opened.items card.id.event card.id.round i old
+      (record old { solutions = made }) at there
+      (record { event = refl; round = refl; scrambles = refl; waiting = refl; seen = refl }) room
+      refl f s))
 
   -- the round of the card
   round_is : round_by cs card.id ≡ Some (kept_value old)
@@ -260,25 +146,19 @@ module _ (cs : List Command) (index : Index) (is : IsIndexOf cs index) (card : C
       → All (IsInRangeOf old.table.unit) vs
   in_range closed vs fit early seen values =
       let unit : old.table.unit ≡ unit_of card.id.event =
-      subst
-      (λ (o : Option (Settings × Table)). HasUnit card.id.event o)
+      subst (λ (o : Option (Settings × Table)). HasUnit card.id.event o)
       (kept_is index.rounds.opened.items card.id.event card.id.round i old at there)
       (kept_unit cs index card.id.event card.id.round is) in
       subst (All (IsInRangeOf old.table.unit)) (sym values)
-      (card_in_range old.table.unit (scrambles_of cs card.id) card old.settings fit
-      (rw unit
-      (right
+      (card_in_range old.table.unit (scrambles_of cs card.id) card old.settings fit (rw unit (right
       (has_outcome (λ k x. is_wrong (unit_of card.id.event) x) 1 card.now)
       (has_outcome (λ k x. lacks_scramble (scrambles_of cs card.id k) x) 1 card.now)
       (option_or (state_refusal closed old.table.is_closed)
-      (seen_refusal card.was (entrant old.table card.number)))
-      (sym early)))
-      seen.in_range)
+      (seen_refusal card.was (entrant old.table card.number))) (sym early))) seen.in_range)
     where
       right : (a b : Bool) (rest : Option Code)
           → option_or (cond a (Some code.WrongOutcome) (cond b (Some code.NoScramble) None)) rest
-          ≡ None
-          → a ≡ false
+          ≡ None → a ≡ false
       right false b rest h = refl
       right true b rest h = absurd (false≢true (sym (ap is_some h)))
 
@@ -286,15 +166,13 @@ module _ (cs : List Command) (index : Index) (is : IsIndexOf cs index) (card : C
     -- the checks of a card, those before its values and those of its values
     pub card_parts : refusal cs (Card card)
         ≡ option_or (early_refusal false (scrambles_of cs card.id) card (kept_value old))
-        (option_map set_code
-        (set_fault old.table card.number
+        (option_map set_code (set_fault old.table card.number
         (card_values (scrambles_of cs card.id) card old.settings)))
     card_parts =
         rw (known, round_is)
         (step (unfit_card_refusal card.id.event (scrambles_of cs card.id) card.now)
         old.table.is_closed (seen_refusal card.was (entrant old.table card.number))
-        (option_map set_code
-        (set_fault old.table card.number
+        (option_map set_code (set_fault old.table card.number
         (card_values (scrambles_of cs card.id) card old.settings))))
       where
         step : (a : Option Code) (b : Bool) (s late : Option Code)
@@ -304,49 +182,27 @@ module _ (cs : List Command) (index : Index) (is : IsIndexOf cs index) (card : C
         step None true s late = refl
         step None false s late = refl
 
-    -- one of the checks before its values fails
-    pub card_early : (why : Code)
-        → Some why ≡ early_refusal false (scrambles_of cs card.id) card (kept_value old)
-        → Some why ≡ refusal cs (Card card)
-    card_early why says =
-        ap
-        (λ (o : Option Code).
-        option_or o
-        (option_map set_code
-        (set_fault old.table card.number
-        (card_values (scrambles_of cs card.id) card old.settings))))
-        says
-        ∙ sym card_parts
-
     -- none of them does, and the table answers to its values
     pub card_late : None ≡ early_refusal false (scrambles_of cs card.id) card (kept_value old)
         → (vs : List Value) → vs ≡ card_values (scrambles_of cs card.id) card old.settings
-        → (answer : Option Code)
-        → answer ≡ option_map set_code (set_fault old.table card.number vs)
+        → (answer : Option Code) → answer ≡ option_map set_code (set_fault old.table card.number vs)
         → answer ≡ refusal cs (Card card)
     card_late early vs values answer says =
         says
-        ∙ ap
-        (λ (ws : List Value). option_map set_code (set_fault old.table card.number ws)) values
-        ∙ ap
-        (λ (o : Option Code).
-        option_or o
-        (option_map set_code
-        (set_fault old.table card.number
-        (card_values (scrambles_of cs card.id) card old.settings))))
-        early
+        ∙ ap (λ (ws : List Value). option_map set_code (set_fault old.table card.number ws)) values
+        ∙ ap (λ (o : Option Code).
+        option_or o (option_map set_code (set_fault old.table card.number
+        (card_values (scrambles_of cs card.id) card old.settings)))) early
         ∙ sym card_parts
 
     -- the checks of these values in a closed round
     abbrev pub late : List Value → Option Code
     late vs =
-        option_or (option_map fix_code (fix_fault old.table card.number vs))
-        (cond
+        option_or (option_map fix_code (fix_fault old.table card.number vs)) (cond
         (not (is_some (kept_next card.id.event card.id.round index.rounds.opened.items))
         && breaks_rounds_rule
         (but_for (kept_competitors card.id.event index.rounds.opened.items) card.id.round
-        (started (with_values old.table card.number vs)))
-        card.id.round old.settings.advance)
+        (started (with_values old.table card.number vs))) card.id.round old.settings.advance)
         (Some code.RoundsRule) None)
 
     -- the same in a closed round
@@ -358,28 +214,21 @@ module _ (cs : List Command) (index : Index) (is : IsIndexOf cs index) (card : C
         (step (unfit_card_refusal card.id.event (scrambles_of cs card.id) card.now)
         old.table.is_closed (seen_refusal card.was (entrant old.table card.number))
         (option_map fix_code (fix_fault old.table card.number vs))
-        (not (is_some (round_of cs card.id.event (card.id.round + 1)))
-        && breaks_rounds_rule
+        (not (is_some (round_of cs card.id.event (card.id.round + 1))) && breaks_rounds_rule
         (but_for (competitors_seen cs card.id.event) card.id.round count) card.id.round
         old.settings.advance)
         (not (is_some (kept_next card.id.event card.id.round index.rounds.opened.items))
         && breaks_rounds_rule
         (but_for (kept_competitors card.id.event index.rounds.opened.items) card.id.round count)
-        card.id.round old.settings.advance)
-        (ap
-        (λ (b : Bool).
-        not b
-        && breaks_rounds_rule
+        card.id.round old.settings.advance) (ap (λ (b : Bool).
+        not b && breaks_rounds_rule
         (but_for (competitors_seen cs card.id.event) card.id.round count) card.id.round
-        old.settings.advance)
-        next
-        ∙ ap
-        (λ (b : Bool).
+        old.settings.advance) next
+        ∙ ap (λ (b : Bool).
         not (is_some (kept_next card.id.event card.id.round index.rounds.opened.items)) && b)
         (breaks_alike (but_for (competitors_seen cs card.id.event) card.id.round count)
         (but_for (kept_competitors card.id.event index.rounds.opened.items) card.id.round count)
-        card.id.round old.settings.advance
-        (λ j.
+        card.id.round old.settings.advance (λ j.
         ap (λ (n : ℕ). cond (j == card.id.round) count n)
         (sym (competitors_alike cs index.rounds.opened.items card.id.event j is.rounds))))))
       where
@@ -401,8 +250,7 @@ module _ (cs : List Command) (index : Index) (is : IsIndexOf cs index) (card : C
             ∙ there_too (kept_next card.id.event card.id.round index.rounds.opened.items)
 
         step : (a : Option Code) (b : Bool) (s fault : Option Code) (x y : Bool) → x ≡ y
-            → option_or a
-            (cond (not b) (Some code.NotClosed)
+            → option_or a (cond (not b) (Some code.NotClosed)
             (option_or s (option_or fault (cond x (Some code.RoundsRule) None))))
             ≡ option_or (option_or a (option_or (state_refusal true b) s))
             (option_or fault (cond y (Some code.RoundsRule) None))
@@ -412,27 +260,14 @@ module _ (cs : List Command) (index : Index) (is : IsIndexOf cs index) (card : C
         step None true None fault x y alike =
             ap (λ (t : Bool). option_or fault (cond t (Some code.RoundsRule) None)) alike
 
-    -- one of the checks before its values fails
-    pub fix_early : (why : Code)
-        → Some why ≡ early_refusal true (scrambles_of cs card.id) card (kept_value old)
-        → Some why ≡ refusal cs (Fix card)
-    fix_early why says =
-        ap
-        (λ (o : Option Code).
-        option_or o (late (card_values (scrambles_of cs card.id) card old.settings)))
-        says
-        ∙ sym fix_parts
-
     -- none of them does
     pub fix_late : None ≡ early_refusal true (scrambles_of cs card.id) card (kept_value old)
         → (vs : List Value) → vs ≡ card_values (scrambles_of cs card.id) card old.settings
         → (answer : Option Code) → answer ≡ late vs → answer ≡ refusal cs (Fix card)
     fix_late early vs values answer says =
         says ∙ ap late values
-        ∙ ap
-        (λ (o : Option Code).
-        option_or o (late (card_values (scrambles_of cs card.id) card old.settings)))
-        early
+        ∙ ap (λ (o : Option Code).
+        option_or o (late (card_values (scrambles_of cs card.id) card old.settings))) early
         ∙ sym fix_parts
 
     -- the same by what is read in between, the round once more and its values twice
@@ -441,8 +276,7 @@ module _ (cs : List Command) (index : Index) (is : IsIndexOf cs index) (card : C
         → (other : KeptRound) → other ≡ get_or index.rounds.opened.items i other
         → (one two : List Value) → one ≡ vs → two ≡ vs → (fault : Option FixFault)
         → fault ≡ fix_fault other.table card.number one → (count : ℕ)
-        → count ≡ started (with_values other.table card.number two) → (breaks : Bool)
-        → breaks
+        → count ≡ started (with_values other.table card.number two) → (breaks : Bool) → breaks
         ≡ (not (is_some (kept_next card.id.event card.id.round index.rounds.opened.items))
         && breaks_rounds_rule
         (but_for (kept_competitors card.id.event index.rounds.opened.items) card.id.round count)
@@ -478,20 +312,6 @@ module _ (cs : List Command) (index : Index) (is : IsIndexOf cs index) (card : C
             && breaks_rounds_rule
             (but_for (kept_competitors card.id.event index.rounds.opened.items) card.id.round n)
             card.id.round advance
-
--- A round that is not open
-
-module _ (cs : List Command) (index : Index) (is : IsIndexOf cs index) (card : CardEntry)
-    (known : is_registered cs card.number ≡ true) (none : kept_by card.id index.rounds ≡ None)
-  where
-    nowhere : round_by cs card.id ≡ None
-    nowhere = sym (is.rounds.rounds card.id.event card.id.round) ∙ none
-
-    pub card_nowhere : Some code.RoundUnknown ≡ refusal cs (Card card)
-    card_nowhere = rw (known, nowhere) refl
-
-    pub fix_nowhere : Some code.RoundUnknown ≡ refusal cs (Fix card)
-    fix_nowhere = rw (known, nowhere) refl
 
 -- who is of a command that is of somebody
 pub known_of : (b : Bool) → not b ≡ false → b ≡ true

@@ -5,27 +5,22 @@ use Rattle.cube.specs.declared.moves.Move.{Move}
 use Rattle.attempts.specs.declared.Value.{Value}
 use Rattle.formats.specs.declared.events.Event.{Event}
 use Rattle.rounds.specs.Tables.{Entrant, Table, changed_of, has_number}
-use Rattle.texts.specs.declared.command.CardEntry.{CardEntry}
-use Rattle.texts.specs.declared.command.Command.{Command}
+use Rattle.texts.specs.declared.command.{CardEntry.CardEntry, Command.Command, Settings.Settings}
 use Rattle.texts.specs.declared.command.Command.TheVariants.{Card, Fix}
-use Rattle.texts.specs.declared.command.Settings.{Settings}
-use Rattle.commands.specs.Accepted.{Opened, opened, plus_command, is_of, settings_by}
-use Rattle.commands.specs.Accepted.{settings_now, is_cancelled}
-use Rattle.commands.specs.Accepted.{closing, entering, takes_out, is_withdrawal, name_given}
-use Rattle.commands.specs.Accepted.{renaming, scrambling, rescrambling, scramble_since, solving}
-use Rattle.commands.specs.Accepted.{solving_at, is_solved, settled, value_counted, values_now}
-use Rattle.commands.specs.Accepted.{counts_in, round_at, round_of}
+use Rattle.commands.specs.Accepted.{Opened, opened, plus_command, is_of, settings_by, settings_now}
+use Rattle.commands.specs.Accepted.{is_cancelled, closing, entering, takes_out, scramble_since}
+use Rattle.commands.specs.Accepted.{solving, solving_at, is_solved, settled, value_counted}
+use Rattle.commands.specs.Accepted.{values_now, counts_in, round_at, round_of}
 use Rattle.commands.specs.model.Cards.{scrambles_of, with_outcomes}
-use Rattle.commands.proofs.CardSteps.{values_alike}
+use Rattle.commands.proofs.{CardSteps.values_alike, Solved.solved_same, Solved.solved_entered}
 use Rattle.commands.proofs.EachCommand.{values_changed, scramble_here}
 use Rattle.commands.proofs.OneMore.{keeps_open, cancels_none, one_more, map_alike, round_changed}
-use Rattle.commands.proofs.Solved.{solved_same, solved_entered}
+use Rattle.commands.proofs.OneMore.{Besides, EntersOnly}
 
 -- a command changes the values of one number as a card says, and does nothing else
 pub record IsOfCard (c : Command) (card : CardEntry) : Type 0 where
   pub values : (e : Event) (r : ℕ) (settings : Settings) (earlier : List Command) (x : Entrant)
-      → one_more e r settings earlier c x
-      ≡ (let y : Entrant =
+      → one_more e r settings earlier c x ≡ (let y : Entrant =
       record {
         number = x.number;
         values =
@@ -33,51 +28,35 @@ pub record IsOfCard (c : Command) (card : CardEntry) : Type 0 where
             (values_now (value_counted e r settings earlier) 1 card.now x.values) x.values;
       } in
       y)
-  pub solves : (e : Event) (r k n : ℕ)
-      → solving e r k n c
+  pub solves : (e : Event) (r k n : ℕ) → solving e r k n c
       ≡ cond (is_of e r card.id && n == card.number) (solving_at k 1 card.now) None
-  pub opens : (e : Event) (r : ℕ) → keeps_open e r c ≡ true
   pub settings : (e : Event) (r : ℕ) (s : Settings) → settings_by e r c s ≡ s
   pub closes : (e : Event) (r : ℕ) → closing e r c ≡ None
   pub enters : (e : Event) (r : ℕ) (waiting : List ℕ) (earlier : List Command)
       → entering e r waiting earlier c ≡ None
   pub leaves : (e : Event) (r n : ℕ) → takes_out e r n c ≡ false
-  pub stay : (e : Event) (r : ℕ) → is_withdrawal e r c ≡ false
-  pub sets : (e : Event) (r k : ℕ) → scrambling e r k c ≡ None
-  pub again : (e : Event) (r k : ℕ) → rescrambling e r k c ≡ None
-  pub unnamed : (n : ℕ) → name_given n c ≡ None
-  pub same : (n : ℕ) → renaming n c ≡ None
+  pub only : EntersOnly c
 
 pub card_is : (card : CardEntry) → IsOfCard (Card card) card
 card_is card = record {
   values = λ e r settings earlier x. refl;
   solves = λ e r k n. refl;
-  opens = λ e r. refl;
   settings = λ e r s. refl;
   closes = λ e r. refl;
   enters = λ e r waiting earlier. refl;
   leaves = λ e r n. refl;
-  stay = λ e r. refl;
-  sets = λ e r k. refl;
-  again = λ e r k. refl;
-  unnamed = λ n. refl;
-  same = λ n. refl;
+  only = λ e r k n. refl;
 }
 
 pub fix_is : (card : CardEntry) → IsOfCard (Fix card) card
 fix_is card = record {
   values = λ e r settings earlier x. refl;
   solves = λ e r k n. refl;
-  opens = λ e r. refl;
   settings = λ e r s. refl;
   closes = λ e r. refl;
   enters = λ e r waiting earlier. refl;
   leaves = λ e r n. refl;
-  stay = λ e r. refl;
-  sets = λ e r k. refl;
-  again = λ e r k. refl;
-  unnamed = λ n. refl;
-  same = λ n. refl;
+  only = λ e r k n. refl;
 }
 
 -- by scrambles that are alike
@@ -87,12 +66,10 @@ outcomes_alike f g each card round =
     ap (λ (es : List Entrant).
     let t : Table = record round.1 { entrants = es } in
     let new : Settings × Table = (round.0, t) in
-    new)
-    (map_alike (changed_of card.number (values_now (counts_in round.0 f) 1 card.now))
+    new) (map_alike (changed_of card.number (values_now (counts_in round.0 f) 1 card.now))
     (changed_of card.number (values_now (counts_in round.0 g) 1 card.now)) one round.1.entrants)
   where
-    one : (x : Entrant)
-        → changed_of card.number (values_now (counts_in round.0 f) 1 card.now) x
+    one : (x : Entrant) → changed_of card.number (values_now (counts_in round.0 f) 1 card.now) x
         ≡ changed_of card.number (values_now (counts_in round.0 g) 1 card.now) x
     one x =
         ap (λ (vs : List Value). cond (has_number card.number x) (record x { values = vs }) x)
@@ -100,15 +77,17 @@ outcomes_alike f g each card round =
         (λ k y. ap (λ (o : Option (List Move)). settled round.0 o y) (each k)) 1 card.now x.values)
 
 module _ (c : Command) (card : CardEntry) (is : IsOfCard c card) where
+  opens : (e : Event) (r : ℕ) → keeps_open e r c ≡ true
+  opens e r = ap (λ (x : Besides). x.4) (is.only e r 0 0)
+
   -- it changes the values in its round, and no other round
-  pub round_dealt : (e : Event) (r : ℕ) (cs : List Command)
-      → round_of (cs ++ c ∷ []) e r
+  pub round_dealt : (e : Event) (r : ℕ) (cs : List Command) → round_of (cs ++ c ∷ []) e r
       ≡ cond (is_of e r card.id)
       (option_map (with_outcomes (scrambles_of cs card.id) card) (round_of cs e r))
       (round_of cs e r)
   round_dealt e r cs =
       round_changed e r cs c (is_of e r card.id) (with_outcomes (scrambles_of cs card.id) card)
-      (is.opens e r) changes
+      (opens e r) changes
     where
       under : (o : Opened) (before : Option (Settings × Table)) → opened e r [] cs ≡ Some o
           → (b : Bool) → is_of e r card.id ≡ b
@@ -123,8 +102,7 @@ module _ (c : Command) (card : CardEntry) (is : IsOfCard c card) where
       under o before made false here = refl
 
       changes : (o : Opened) (before : Option (Settings × Table)) → opened e r [] cs ≡ Some o
-          → round_at e r before (plus_command c o)
-          ≡ cond (is_of e r card.id)
+          → round_at e r before (plus_command c o) ≡ cond (is_of e r card.id)
           (with_outcomes (scrambles_of cs card.id) card (round_at e r before o))
           (round_at e r before o)
       changes o before made =
@@ -137,19 +115,16 @@ module _ (c : Command) (card : CardEntry) (is : IsOfCard c card) where
   -- and what it enters is a solution or not, in a round that is open
   pub solved_dealt : (e : Event) (r k n : ℕ) (cs : List Command)
       → (is_of e r card.id ≡ true → is_some (round_of cs e r) ≡ true)
-      → is_solved (cs ++ c ∷ []) e r k n
-      ≡ cond (is_of e r card.id && n == card.number)
+      → is_solved (cs ++ c ∷ []) e r k n ≡ cond (is_of e r card.id && n == card.number)
       (unwrap_or (solving_at k 1 card.now) (is_solved cs e r k n)) (is_solved cs e r k n)
   solved_dealt e r k n cs there =
-      step (is_of e r card.id) (n == card.number) (solving_at k 1 card.now) refl
-      (is.solves e r k n)
+      step (is_of e r card.id) (n == card.number) (solving_at k 1 card.now) refl (is.solves e r k n)
     where
       stands : is_cancelled e r c ≡ false
-      stands = cancels_none e r c (is.opens e r)
+      stands = cancels_none e r c (opens e r)
 
       step : (a b : Bool) (o : Option Bool) → is_of e r card.id ≡ a
-          → solving e r k n c ≡ cond (a && b) o None
-          → is_solved (cs ++ c ∷ []) e r k n
+          → solving e r k n c ≡ cond (a && b) o None → is_solved (cs ++ c ∷ []) e r k n
           ≡ cond (a && b) (unwrap_or o (is_solved cs e r k n)) (is_solved cs e r k n)
       step true true None here says = solved_same e r k n cs c stands says
       step true true (Some s) here says =

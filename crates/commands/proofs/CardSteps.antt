@@ -1,43 +1,32 @@
 -- A card, one attempt after the other.
-use Rattle.std.proofs.Common.{◌≡◌, ℕ, zero, suc, ◌+◌, ◌-◌, ◌*◌, ◌/◌, ◌<◌, ◌≤◌, ◌==◌, ◌||◌, ◌&&◌}
-use Rattle.std.proofs.Common.{Bool, true, false, cond, nat_le, List, [], ◌∷◌, length, drop, get_or}
-use Rattle.std.proofs.Common.{slice_get, unwrap_or, Option, Some, None, option_map, IfSome, All}
-use Rattle.std.proofs.Common.{◌++◌, refl, sym, ap, ◌∙◌, subst, arith, add-one, append_assoc}
-use Rattle.std.proofs.Common.{eqb-true}
+use Rattle.std.proofs.Common.{◌≡◌, ◌==◌, ◌||◌, ◌&&◌, Bool, true, cond, List, drop, Some, None, ◌++◌}
+use Rattle.std.proofs.Common.{ℕ, suc, ◌+◌, ◌-◌, ◌*◌, ◌/◌, ◌<◌, ◌≤◌, ◌∷◌, All, refl, sym, ◌∙◌}
+use Rattle.std.proofs.Common.{zero, false, nat_le, length, get_or, Option, IfSome, ap, subst, arith}
+use Rattle.std.proofs.Common.{[], slice_get, unwrap_or, option_map, add-one, append_assoc, eqb-true}
 use Rattle.std.proofs.Math.Dec.{eqb-suc-suc, eqb-suc-zero}
-use Rattle.std.proofs.Math.ListN.{drop_of_length-le}
-use Rattle.std.proofs.Math.Seq.{drop-cons}
-use Rattle.std.specs.Prelude.{nat_lt}
-use Rattle.std.specs.List.{list_any, AllByRecursion}
-use Rattle.std.specs.Option.{option_and_then}
+use Rattle.std.proofs.Math.{ListN.drop_of_length-le, Seq.drop-cons, Nat.div-mul-le_self}
+use Rattle.std.specs.{Prelude.nat_lt, List.list_any, List.AllByRecursion, Option.option_and_then}
 use Rattle.std.proofs.lemmas.Bool.{false≢true}
-use Rattle.std.proofs.lemmas.Bool.Decides.{nat_tests}
+use Rattle.std.proofs.lemmas.{Bool.Decides.nat_tests, List.Sums.count_by-le-length}
 use Rattle.std.proofs.lemmas.List.Elements.{All-from_recursion, recursion_from_All}
-use Rattle.std.proofs.lemmas.List.Sums.{count_by-le-length}
-use Rattle.std.proofs.Math.Nat.{div-mul-le_self}
 use Rattle.cube.specs.declared.moves.Move.{Move}
 use Rattle.cube.specs.notation.Notation.{is_turn, turn_count}
-use Rattle.attempts.specs.declared.Fm.TheVariants as fm
-use Rattle.attempts.specs.declared.Unit.{Unit as Measure}
-use Rattle.attempts.specs.declared.Unit.TheVariants as measure
-use Rattle.attempts.specs.declared.Value.{Value}
-use Rattle.attempts.specs.declared.Value.TheVariants as value
+use Rattle.attempts.specs.declared.{Unit.Unit as Measure, Value.Value}
 use Rattle.attempts.specs.Attempts.{rounded, reaches, solution_value, multi_number}
 use Rattle.attempts.specs.Attempts.{is_multi_finished, IsInRangeOf}
 use Rattle.fmc_check.specs.Fewest.{is_solution as solves, result_of}
-use Rattle.formats.specs.declared.events.Event.{Event}
-use Rattle.formats.specs.Events.{unit_of}
-use Rattle.texts.specs.declared.answer.Code.TheVariants as code
-use Rattle.texts.specs.declared.command.CardEntry.{CardEntry}
-use Rattle.texts.specs.declared.command.Entered.{Entered}
-use Rattle.texts.specs.declared.command.Entered.TheVariants as entered
-use Rattle.texts.specs.declared.command.Settings.{Settings}
+use Rattle.formats.specs.{declared.events.Event.Event, Events.unit_of}
+use Rattle.texts.specs.declared.command.{CardEntry.CardEntry, Entered.Entered, Settings.Settings}
 use Rattle.texts.specs.Spelling.{IsEntered}
 use Rattle.commands.specs.Accepted.{settled, is_solution, is_wrong, is_value, are_values}
 use Rattle.commands.specs.Accepted.{has_outcome, unfit_card_refusal, values_now, counts_in}
-use Rattle.commands.specs.Accepted.{card_values, solving_at}
+use Rattle.commands.specs.{Accepted.card_values, Accepted.solving_at, model.Solved.is_set_in}
 use Rattle.commands.specs.model.Cards.{IsReadCard, enters, lacks_in, value_at}
-use Rattle.commands.specs.model.Solved.{is_set_in}
+use Rattle.attempts.specs.declared.Fm.TheVariants as fm
+use Rattle.attempts.specs.declared.Unit.TheVariants as measure
+use Rattle.attempts.specs.declared.Value.TheVariants as value
+use Rattle.texts.specs.declared.answer.Code.TheVariants as code
+use Rattle.texts.specs.declared.command.Entered.TheVariants as entered
 
 -- Whether one of them is entered
 
@@ -50,15 +39,12 @@ any_of is k (Some x ∷ xs) = ap (λ (b : Bool). is x || b) (any_of is (suc k) x
 
 -- for the attempt at an index, or for one after it
 pub outcome_next : (is : ℕ → Entered → Bool) (k i : ℕ) (xs : List (Option Entered))
-    (d : Option Entered)
-    → i < length xs
-    → has_outcome is k (drop i xs)
+    (d : Option Entered) → i < length xs → has_outcome is k (drop i xs)
     ≡ (enters (is k) (get_or xs i d) || has_outcome is (suc k) (drop (suc i) xs))
 outcome_next is k i xs d within =
     ap (has_outcome is k) (drop-cons xs i d within) ∙ step (get_or xs i d)
   where
-    step : (o : Option Entered)
-        → has_outcome is k (o ∷ drop (suc i) xs)
+    step : (o : Option Entered) → has_outcome is k (o ∷ drop (suc i) xs)
         ≡ (enters (is k) o || has_outcome is (suc k) (drop (suc i) xs))
     step None = refl
     step (Some x) = refl
@@ -69,8 +55,7 @@ pub outcome_passed : (is : ℕ → Entered → Bool) (i : ℕ) (xs : List (Optio
     → has_outcome is (suc i) (drop i xs) ≡ has_outcome is (suc (i + 1)) (drop (i + 1) xs)
 outcome_passed is i xs within fails =
     outcome_next is (suc i) i xs None within
-    ∙ ap
-    (λ (n : ℕ). enters (is n) (get_or xs i None) || has_outcome is (suc n) (drop n xs))
+    ∙ ap (λ (n : ℕ). enters (is n) (get_or xs i None) || has_outcome is (suc n) (drop n xs))
     (sym (add-one i))
     ∙ ap (λ (b : Bool). b || has_outcome is (suc (i + 1)) (drop (i + 1) xs)) fails
 
@@ -80,8 +65,7 @@ pub outcome_found : (is : ℕ → Entered → Bool) (i : ℕ) (xs : List (Option
     → has_outcome is (suc i) (drop i xs) ≡ true
 outcome_found is i xs within holds =
     outcome_next is (suc i) i xs None within
-    ∙ ap
-    (λ (n : ℕ). enters (is n) (get_or xs i None) || has_outcome is (suc n) (drop n xs))
+    ∙ ap (λ (n : ℕ). enters (is n) (get_or xs i None) || has_outcome is (suc n) (drop n xs))
     (sym (add-one i))
     ∙ ap (λ (b : Bool). b || has_outcome is (suc (i + 1)) (drop (i + 1) xs)) holds
 
@@ -92,33 +76,16 @@ outcome_past is k i xs past = ap (has_outcome is k) (drop_of_length-le xs past)
 
 -- by what an event accepts
 pub unfit_is : (e : Event) (scrambles : ℕ → Option (List Move)) (now : List (Option Entered))
-    (wrong lacks : Bool)
-    → wrong ≡ list_any (enters (is_wrong (unit_of e))) now
+    (wrong lacks : Bool) → wrong ≡ list_any (enters (is_wrong (unit_of e))) now
     → lacks ≡ has_outcome (lacks_in scrambles) 1 now
     → cond wrong (Some code.WrongOutcome) (cond lacks (Some code.NoScramble) None)
     ≡ unfit_card_refusal e scrambles now
 unfit_is e scrambles now wrong lacks is_wrong_one lacks_one =
-    ap
-    (λ (b : Bool). cond b (Some code.WrongOutcome) (cond lacks (Some code.NoScramble) None))
+    ap (λ (b : Bool). cond b (Some code.WrongOutcome) (cond lacks (Some code.NoScramble) None))
     (is_wrong_one ∙ any_of (is_wrong (unit_of e)) 1 now)
-    ∙ ap
-    (λ (b : Bool).
+    ∙ ap (λ (b : Bool).
     cond (has_outcome (λ k x. is_wrong (unit_of e) x) 1 now) (Some code.WrongOutcome)
-    (cond b (Some code.NoScramble) None))
-    lacks_one
-
--- What is entered at an index
-
-pub entered_at : (xs : List (Option Entered)) (i : ℕ) (d : Option Entered) (x : Entered)
-    → All (λ o. IfSome o IsEntered) xs → i < length xs → get_or xs i d ≡ Some x → IsEntered x
-entered_at xs i d x all within is =
-    go xs i (recursion_from_All (λ o. IfSome o IsEntered) xs all) within is
-  where
-    go : (ys : List (Option Entered)) (j : ℕ) → AllByRecursion (λ o. IfSome o IsEntered) ys
-        → j < length ys → get_or ys j d ≡ Some x → IsEntered x
-    go [] j each low at = absurd (omega arith)
-    go (y ∷ ys) zero each low at = subst (λ o. IfSome o IsEntered) at each.0
-    go (y ∷ ys) (suc j) each low at = go ys j each.1 (omega arith) at
+    (cond b (Some code.NoScramble) None)) lacks_one
 
 -- The values
 
@@ -159,8 +126,7 @@ stand_none x xs keeps i low is =
 
 -- the value of the attempt at an index, and those after it
 pub values_next : (counts : ℕ → Entered → Value) (k i : ℕ) (xs : List (Option Entered))
-    (vs : List Value) (e : Value)
-    → Stand xs vs → i < length xs
+    (vs : List Value) (e : Value) → Stand xs vs → i < length xs
     → values_now counts k (drop i xs) (drop i vs)
     ≡ value_at (counts k) (get_or xs i None) (get_or vs i e)
     ∷ values_now counts (suc k) (drop (suc i) xs) (drop (suc i) vs)
@@ -173,8 +139,7 @@ values_next counts k zero (Some x ∷ xs) (v ∷ vs) e keeps within = refl
 values_next counts k (suc i) (x ∷ xs) [] e keeps within =
     ap (values_now counts k (drop i xs)) (sym (drop_none i))
     ∙ values_next counts k i xs [] e (stand_none x xs keeps) (omega arith)
-    ∙ ap
-    (λ (vs : List Value).
+    ∙ ap (λ (vs : List Value).
     value_at (counts k) (get_or xs i None) e ∷ values_now counts (suc k) (drop (suc i) xs) vs)
     (drop_none (suc i))
 values_next counts k (suc i) (x ∷ xs) (v ∷ vs) e keeps within =
@@ -182,38 +147,29 @@ values_next counts k (suc i) (x ∷ xs) (v ∷ vs) e keeps within =
 
 -- one more value, as at a step of a loop
 pub values_more : (counts : ℕ → Entered → Value) (i : ℕ) (xs : List (Option Entered))
-    (vs : List Value) (e : Value) (done : List Value) (v : Value)
-    → Stand xs vs → i < length xs
+    (vs : List Value) (e : Value) (done : List Value) (v : Value) → Stand xs vs → i < length xs
     → v ≡ value_at (counts (i + 1)) (get_or xs i None) (get_or vs i e)
     → done ++ values_now counts (suc i) (drop i xs) (drop i vs)
     ≡ (done ++ v ∷ []) ++ values_now counts (suc (i + 1)) (drop (i + 1) xs) (drop (i + 1) vs)
 values_more counts i xs vs e done v keeps within is =
-    ap (λ (ws : List Value). done ++ ws)
-    (values_next counts (suc i) i xs vs e keeps within
-    ∙ ap
-    (λ (n : ℕ).
+    ap (λ (ws : List Value). done ++ ws) (values_next counts (suc i) i xs vs e keeps within
+    ∙ ap (λ (n : ℕ).
     value_at (counts n) (get_or xs i None) (get_or vs i e)
-    ∷ values_now counts (suc n) (drop n xs) (drop n vs))
-    (sym (add-one i))
-    ∙ ap
-    (λ (w : Value).
-    w ∷ values_now counts (suc (i + 1)) (drop (i + 1) xs) (drop (i + 1) vs))
-    (sym is))
-    ∙ sym
-    (append_assoc done (v ∷ [])
+    ∷ values_now counts (suc n) (drop n xs) (drop n vs)) (sym (add-one i))
+    ∙ ap (λ (w : Value).
+    w ∷ values_now counts (suc (i + 1)) (drop (i + 1) xs) (drop (i + 1) vs)) (sym is))
+    ∙ sym (append_assoc done (v ∷ [])
     (values_now counts (suc (i + 1)) (drop (i + 1) xs) (drop (i + 1) vs)))
 
 -- and none at the end
 pub values_past : (counts : ℕ → Entered → Value) (k i : ℕ) (xs : List (Option Entered))
-    (vs : List Value)
-    → length xs ≤ i → values_now counts k (drop i xs) vs ≡ []
+    (vs : List Value) → length xs ≤ i → values_now counts k (drop i xs) vs ≡ []
 values_past counts k i xs vs past =
     ap (λ (ys : List (Option Entered)). values_now counts k ys vs) (drop_of_length-le xs past)
 
 -- the values by what each outcome counts alike
 pub values_alike : (f g : ℕ → Entered → Value) → ((k : ℕ) (x : Entered) → f k x ≡ g k x) → (k : ℕ)
-    (xs : List (Option Entered)) (vs : List Value)
-    → values_now f k xs vs ≡ values_now g k xs vs
+    (xs : List (Option Entered)) (vs : List Value) → values_now f k xs vs ≡ values_now g k xs vs
 values_alike f g each k [] vs = refl
 values_alike f g each k (Some x ∷ xs) [] =
     rw (each k x, values_alike f g each (suc k) xs []) refl
@@ -226,8 +182,7 @@ values_alike f g each k (None ∷ xs) (v ∷ vs) =
 -- what holds of each value that is entered, and of each that counts, holds of each
 pub values_hold : (P : Value → Type 0) (Q : Entered → Type 0) (counts : ℕ → Entered → Value)
     → ((k : ℕ) (x : Entered) → Q x → P (counts k x)) → (k : ℕ) (xs : List (Option Entered))
-    (vs : List Value)
-    → AllByRecursion (λ o. IfSome o Q) xs → AllByRecursion P vs
+    (vs : List Value) → AllByRecursion (λ o. IfSome o Q) xs → AllByRecursion P vs
     → AllByRecursion P (values_now counts k xs vs)
 values_hold P Q counts each k [] vs all these = tt
 values_hold P Q counts each k (Some x ∷ xs) [] all these =
@@ -244,8 +199,7 @@ values_hold P Q counts each k (None ∷ xs) (v ∷ vs) all these =
 later : (k j : ℕ) (xs : List (Option Entered)) → solving_at (suc k) (suc j) xs ≡ solving_at k j xs
 later k j [] = refl
 later k j (x ∷ xs) =
-    ap
-    (λ (b : Bool). cond b (option_map is_solution x) (solving_at (suc k) (suc (suc j)) xs))
+    ap (λ (b : Bool). cond b (option_map is_solution x) (solving_at (suc k) (suc (suc j)) xs))
     (eqb-suc-suc k j)
     ∙ ap (cond (k == j) (option_map is_solution x)) (later k (suc j) xs)
 
@@ -256,8 +210,7 @@ solving_is zero [] = refl
 solving_is zero (x ∷ xs) = refl
 solving_is (suc k) [] = refl
 solving_is (suc k) (x ∷ xs) =
-    ap (λ (b : Bool). cond b (option_map is_solution x) (solving_at (suc k) 1 xs))
-    (eqb-suc-zero k)
+    ap (λ (b : Bool). cond b (option_map is_solution x) (solving_at (suc k) 1 xs)) (eqb-suc-zero k)
     ∙ later k 0 xs ∙ solving_is k xs
 
 get_past : (xs : List (Option Entered)) (k : ℕ) → length xs ≤ k → slice_get xs k ≡ None
@@ -267,8 +220,7 @@ get_past (x ∷ xs) (suc k) past = get_past xs k (omega arith)
 
 -- flags that are set for the attempts below an index at the end, and for no other
 pub all_noted : (xs : List (Option Entered)) (old new : List Bool) (i : ℕ) → length xs ≤ i
-    → ((k : ℕ) → k < i
-    → get_or new k false
+    → ((k : ℕ) → k < i → get_or new k false
     ≡ unwrap_or (option_and_then (option_map is_solution) (slice_get xs k)) (get_or old k false))
     → ((k : ℕ) → i ≤ k → get_or new k false ≡ get_or old k false) → (k : ℕ)
     → get_or new k false ≡ unwrap_or (solving_at k 0 xs) (get_or old k false)
@@ -276,17 +228,14 @@ all_noted xs old new i past noted others k =
     step (nat_lt k i) refl
     ∙ ap (λ (o : Option Bool). unwrap_or o (get_or old k false)) (sym (solving_is k xs))
   where
-    step : (b : Bool) → nat_lt k i ≡ b
-        → get_or new k false
-        ≡ unwrap_or (option_and_then (option_map is_solution) (slice_get xs k))
-        (get_or old k false)
+    step : (b : Bool) → nat_lt k i ≡ b → get_or new k false
+        ≡ unwrap_or (option_and_then (option_map is_solution) (slice_get xs k)) (get_or old k false)
     step true is = let low : k < i = grind (arith, nat_tests) in noted k low
     step false is =
         let high : i ≤ k = grind (arith, nat_tests) in
         let beyond : length xs ≤ k = omega (arith, past, high) in
         others k high
-        ∙ ap
-        (λ (o : Option (Option Entered)).
+        ∙ ap (λ (o : Option (Option Entered)).
         unwrap_or (option_and_then (option_map is_solution) o) (get_or old k false))
         (sym (get_past xs k beyond))
 
@@ -341,8 +290,7 @@ noted_after xs number n k old new row written low is has each =
 
 -- the same where the number has no row, and no solution is entered
 pub noted_still : (xs : List (Option Entered)) (number n k : ℕ) (old new : Option (List Bool))
-    → new ≡ old → (number ≡ n → old ≡ None)
-    → (list_any (enters is_solution) xs ≡ true → ⊥)
+    → new ≡ old → (number ≡ n → old ≡ None) → (list_any (enters is_solution) xs ≡ true → ⊥)
     → is_set_in k new
     ≡ cond (n == number) (unwrap_or (solving_at k 1 xs) (is_set_in k old)) (is_set_in k old)
 noted_still xs number n k old new is none few =
@@ -363,14 +311,9 @@ noted_still xs number n k old new is none few =
 
 same_value : (v w : Value) → is_value v w ≡ true → v ≡ w
 same_value (value.Number n) (value.Number m) h = ap value.Number (eqb-true n m h)
-same_value (value.Number n) value.Dnf h = absurd (false≢true h)
-same_value (value.Number n) value.Dns h = absurd (false≢true h)
-same_value value.Dnf (value.Number m) h = absurd (false≢true h)
 same_value value.Dnf value.Dnf h = refl
-same_value value.Dnf value.Dns h = absurd (false≢true h)
-same_value value.Dns (value.Number m) h = absurd (false≢true h)
-same_value value.Dns value.Dnf h = absurd (false≢true h)
 same_value value.Dns value.Dns h = refl
+same_value _ _ h = absurd (false≢true h)
 
 pub same_values : (vs ws : List Value) → are_values vs ws ≡ true → vs ≡ ws
 same_values [] [] h = refl
@@ -428,8 +371,7 @@ settled_in_range measure.Moves settings scramble (entered.Multi solved attempted
 settled_in_range measure.Multi settings scramble (entered.Multi solved attempted seconds) is right =
     step (is_multi_finished solved attempted) refl
   where
-    step : (b : Bool) → is_multi_finished solved attempted ≡ b
-        → IsInRangeOf measure.Multi
+    step : (b : Bool) → is_multi_finished solved attempted ≡ b → IsInRangeOf measure.Multi
         (cond b (value.Number (multi_number solved attempted seconds)) value.Dnf)
     step true finished =
         let few : attempted - solved ≤ solved = grind (arith, nat_tests) in
@@ -464,12 +406,10 @@ all_right unit k (Some x ∷ xs) all h =
 pub card_in_range : (unit : Measure) (scrambles : ℕ → Option (List Move)) (card : CardEntry)
     (settings : Settings)
     → IsReadCard card → has_outcome (λ k x. is_wrong unit x) 1 card.now ≡ false
-    → All (IsInRangeOf unit) card.was
-    → All (IsInRangeOf unit) (card_values scrambles card settings)
+    → All (IsInRangeOf unit) card.was → All (IsInRangeOf unit) (card_values scrambles card settings)
 card_in_range unit scrambles card settings read right stand =
     All-from_recursion (IsInRangeOf unit) (card_values scrambles card settings)
     (values_hold (IsInRangeOf unit) (IsRight unit) (counts_in settings scrambles)
     (λ k x fits. settled_in_range unit settings (scrambles k) x fits.0 fits.1) 1 card.now card.was
     (all_right unit 1 card.now (recursion_from_All (λ o. IfSome o IsEntered) card.now read.entered)
-    right)
-    (recursion_from_All (IsInRangeOf unit) card.was stand))
+    right) (recursion_from_All (IsInRangeOf unit) card.was stand))

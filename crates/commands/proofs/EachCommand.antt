@@ -1,41 +1,32 @@
 -- What each command makes of a round, as the accepted commands have it.
-use Rattle.std.proofs.Common.{◌≡◌, ℕ, zero, suc, ◌-◌, ◌≤◌, Bool, true, false, ◌&&◌, ◌==◌}
-use Rattle.std.proofs.Common.{cond, unwrap_or, List, [], ◌∷◌, ◌++◌, map}
-use Rattle.std.proofs.Common.{Option, Some, None, option_map, option_to_list, refl, ap}
-use Rattle.std.proofs.Common.{◌∙◌, sym, append-nil, arith, eqb-true}
+use Rattle.std.proofs.Common.{◌≡◌, ℕ, zero, suc, ◌-◌, ◌≤◌, Bool, true, false, ◌&&◌, ◌==◌, cond}
+use Rattle.std.proofs.Common.{unwrap_or, List, [], ◌∷◌, ◌++◌, map, Option, Some, None, option_map}
+use Rattle.std.proofs.Common.{option_to_list, refl, ap, ◌∙◌, sym, append-nil, arith, eqb-true}
 use Rattle.std.specs.Option.{option_or, option_and_then}
 use Rattle.std.proofs.lemmas.Bool.Decides.{nat_tests}
 use Rattle.cube.specs.declared.moves.Move.{Move}
 use Rattle.attempts.specs.declared.Value.{Value}
-use Rattle.formats.specs.declared.events.Event.{Event}
-use Rattle.formats.specs.declared.events.Format.{Format}
-use Rattle.formats.specs.Events.{same_event}
+use Rattle.formats.specs.declared.events.{Event.Event, Format.Format}
+use Rattle.formats.specs.{Events.same_event, declared.advance.Advance.Advance}
 use Rattle.formats.proofs.SameEvent.{same_event-equal}
-use Rattle.texts.specs.declared.command.Command.{Command}
+use Rattle.texts.specs.declared.command.{Command.Command, Entered.Entered, Settings.Settings}
 use Rattle.texts.specs.declared.command.Command.TheVariants.{Register, Open, Enter, Scramble}
 use Rattle.texts.specs.declared.command.Command.TheVariants.{Attempt, Correct, Strike, SetAdvance}
 use Rattle.texts.specs.declared.command.Command.TheVariants.{Close, SetEdition, Rename, SetRound}
 use Rattle.texts.specs.declared.command.Command.TheVariants.{Rescramble, Reopen, Cancel}
-use Rattle.texts.specs.declared.command.Entered.{Entered}
-use Rattle.texts.specs.declared.command.Settings.{Settings}
 use Rattle.texts.specs.Fields.{round_id, attempt_entry}
 use Rattle.rounds.specs.Tables.{Entrant, Table, changed_of, replaced, without_last}
-use Rattle.formats.specs.declared.advance.Advance.{Advance}
 use Rattle.commands.specs.model.Kept.{with_attempt, with_correction, with_strike, with_advance}
-use Rattle.commands.specs.model.Kept.{with_end, with_entry, with_settings, newcomer}
-use Rattle.commands.specs.model.Kept.{with_reopening, with_newcomers}
-use Rattle.commands.specs.Accepted.{Opened, opened, opened_by, just_opened, plus_command}
-use Rattle.commands.specs.Accepted.{scramble_since, scramble_of, settled}
-use Rattle.commands.specs.Accepted.{settings_by, entering, closing}
-use Rattle.commands.specs.Accepted.{entrants_left, is_ended, settings_now, round_at}
-use Rattle.commands.specs.Accepted.{who_advance, who_wait}
-use Rattle.commands.specs.Accepted.{round_in, round_of}
-use Rattle.commands.proofs.Lookups.{none_either}
-use Rattle.commands.proofs.OneMore.{keeps_open, opened_push, one_more, new_table}
-use Rattle.commands.proofs.OneMore.{with_entrants, with_table, with_parts, entrants_at}
-use Rattle.commands.proofs.OneMore.{entrants_with, left_all, entered_last, round_more}
-use Rattle.commands.proofs.OneMore.{round_with, map_same, map_alike, KeepsValues, TakesNobodyOut}
-use Rattle.commands.proofs.OneMore.{same_entrants, still, round_changed}
+use Rattle.commands.specs.model.Kept.{with_end, with_entry, with_settings, newcomer, with_reopening}
+use Rattle.commands.specs.{model.Kept.with_newcomers, Accepted.round_in, Accepted.round_of}
+use Rattle.commands.specs.Accepted.{Opened, opened, plus_command, scramble_since, scramble_of}
+use Rattle.commands.specs.Accepted.{settled, settings_by, entering, closing, entrants_left}
+use Rattle.commands.specs.Accepted.{is_ended, settings_now, round_at, who_advance, who_wait}
+use Rattle.commands.proofs.{Lookups.none_either, Lookups.of_either, OneMore.round_changed}
+use Rattle.commands.proofs.OneMore.{keeps_open, asked_open, asked_cancel, before_opening, one_more}
+use Rattle.commands.proofs.OneMore.{new_table, with_entrants, with_table, with_parts, entrants_at}
+use Rattle.commands.proofs.OneMore.{left_all, entered_last, round_more, round_with, map_same}
+use Rattle.commands.proofs.OneMore.{map_alike, KeepsValues, TakesNobodyOut, same_entrants, still}
 
 abbrev pub with_change : Event → ℕ → Option (Settings × Table) → Opened → ℕ
     → (List Value → List Value) → Settings × Table
@@ -48,28 +39,22 @@ pub values_changed : (e : Event) (r : ℕ) (before : Option (Settings × Table))
     (o : Opened) (m : ℕ) (change : List Value → List Value) (b : Bool)
     → ((s : Settings) → settings_by e r c s ≡ s) → closing e r c ≡ None
     → ((waiting : List ℕ) (earlier : List Command) → entering e r waiting earlier c ≡ None)
-    → TakesNobodyOut e r c
-    → ((x : Entrant)
-    → one_more e r o.settings o.since c x
+    → TakesNobodyOut e r c → ((x : Entrant) → one_more e r o.settings o.since c x
     ≡ (let y : Entrant =
     record { number = x.number; values = cond (b && m == x.number) (change x.values) x.values } in
-    y))
-    → round_at e r before (plus_command c o)
+    y)) → round_at e r before (plus_command c o)
     ≡ cond b (with_change e r before o m change) (round_at e r before o)
 values_changed e r before c o m change b sets stays nobody stay is =
-    round_with e r before c o _ sets stays
-    (rw (nobody (who_wait before) o.since)
+    round_with e r before c o _ sets stays (rw (nobody (who_wait before) o.since)
     (ap (λ (xs : List Entrant). xs ++ [])
     (left_all e r o.settings o.since c (entrants_at e r before o) stay
     ∙ map_alike _ _ each (entrants_at e r before o))
     ∙ all b (entrants_at e r before o)))
     ∙ both b
   where
-    at : (a t : Bool) (x : Entrant)
-        → (let y : Entrant =
+    at : (a t : Bool) (x : Entrant) → (let y : Entrant =
         record { number = x.number; values = cond (a && t) (change x.values) x.values } in
-        y)
-        ≡ cond a (cond t (record x { values = change x.values }) x) x
+        y) ≡ cond a (cond t (record x { values = change x.values }) x) x
     at true true x = refl
     at true false x = refl
     at false t x = refl
@@ -83,8 +68,7 @@ values_changed e r before c o m change b sets stays nobody stay is =
     all true xs = append-nil _
     all false xs = append-nil _ ∙ map_same _ (λ x. refl) xs
 
-    both : (a : Bool)
-        → with_parts e (settings_now e r o) (is_ended e r o.since)
+    both : (a : Bool) → with_parts e (settings_now e r o) (is_ended e r o.since)
         (cond a (map (changed_of m change) (entrants_at e r before o)) (entrants_at e r before o))
         ≡ cond a (with_change e r before o m change) (round_at e r before o)
     both true = refl
@@ -104,8 +88,7 @@ scramble_here e f r s k cs o is here =
 -- a change that asks for the scramble of an attempt
 under_scramble : (e f : Event) (r s k : ℕ) (before : Option (Settings × Table))
     (cs : List Command) (o : Opened)
-    (change : Option (List Move) → Settings × Table → Settings × Table)
-    → opened e r [] cs ≡ Some o
+    (change : Option (List Move) → Settings × Table → Settings × Table) → opened e r [] cs ≡ Some o
     → (b : Bool) → (same_event e f && r == s) ≡ b
     → cond b (change (scramble_since e r k o) (round_at e r before o)) (round_at e r before o)
     ≡ cond b (change (scramble_of cs f s k) (round_at e r before o)) (round_at e r before o)
@@ -168,38 +151,36 @@ round_strike e f r s m cs =
     values_changed e r before (Strike (round_id f s) m) o m without_last (same_event e f && r == s)
     (λ s. refl) refl (λ waiting earlier. refl) (λ n. refl) (λ y. refl))
 
+-- a command that enters nobody, takes nobody out and changes no values changes a round by what it
+-- sets, and by whether it closes the round
+remade : (e : Event) (r : ℕ) (cs : List Command) (c : Command) (b : Bool)
+    (change : Settings × Table → Settings × Table) → keeps_open e r c ≡ true
+    → ((waiting : List ℕ) (earlier : List Command) → entering e r waiting earlier c ≡ None)
+    → TakesNobodyOut e r c → KeepsValues e r c
+    → ((settings : Settings) (now : Bool) (es : List Entrant)
+    → with_parts e (settings_by e r c settings) (unwrap_or (closing e r c) now) es
+    ≡ cond b (change (with_parts e settings now es)) (with_parts e settings now es))
+    → round_of (cs ++ c ∷ []) e r ≡ cond b (option_map change (round_of cs e r)) (round_of cs e r)
+remade e r cs c b change opens nobody stay keeps makes =
+    round_changed e r cs c b change opens (λ o before is.
+    round_more e r before o c
+    ∙ ap (λ (xs : List Entrant).
+    with_parts e (settings_by e r c (settings_now e r o))
+    (unwrap_or (closing e r c) (is_ended e r o.since)) xs)
+    (same_entrants e r before o c nobody stay keeps)
+    ∙ makes (settings_now e r o) (is_ended e r o.since) (entrants_at e r before o))
+
 -- an advance that is given is in its round, and in no other
 pub round_advance : (e f : Event) (r s : ℕ) (advance : Advance) (cs : List Command)
     → round_of (cs ++ SetAdvance (round_id f s) advance ∷ []) e r
     ≡ cond (same_event e f && r == s) (option_map (with_advance advance) (round_of cs e r))
     (round_of cs e r)
 round_advance e f r s advance cs =
-    round_changed e r cs c (same_event e f && r == s) (with_advance advance) refl
-    (λ o before is. changes o before)
-  where
-    c : Command
-    c = SetAdvance (round_id f s) advance
-
-    step : (o : Opened) (before : Option (Settings × Table)) (b : Bool)
-        → with_parts e
-        (cond b (record (settings_now e r o) { advance = advance }) (settings_now e r o))
-        (is_ended e r o.since) (entrants_at e r before o)
-        ≡ cond b (with_advance advance (round_at e r before o)) (round_at e r before o)
-    step o before true = refl
-    step o before false = refl
-
-    changes : (o : Opened) (before : Option (Settings × Table))
-        → round_at e r before (plus_command c o)
-        ≡ cond (same_event e f && r == s) (with_advance advance (round_at e r before o))
-        (round_at e r before o)
-    changes o before =
-        round_more e r before o c
-        ∙ ap
-        (λ (xs : List Entrant).
-        with_parts e (settings_by e r c (settings_now e r o)) (is_ended e r o.since) xs)
-        (same_entrants e r before o c (λ waiting earlier. refl) (λ n. refl)
-        (λ settings earlier x. refl))
-        ∙ step o before (same_event e f && r == s)
+    remade e r cs (SetAdvance (round_id f s) advance) (same_event e f && r == s)
+    (with_advance advance) refl (λ waiting earlier. refl) (λ n. refl) (λ settings earlier x. refl)
+    (λ settings now es.
+    of_either (λ (x : Settings). with_parts e x now es) (same_event e f && r == s)
+    (record settings { advance = advance }) settings)
 
 -- other settings are in their round, and in no other
 pub round_settings : (e f : Event) (r s : ℕ) (format : Format) (cutoff : Option (ℕ × ℕ))
@@ -208,90 +189,21 @@ pub round_settings : (e f : Event) (r s : ℕ) (format : Format) (cutoff : Optio
     ≡ cond (same_event e f && r == s)
     (option_map (with_settings format cutoff limit) (round_of cs e r)) (round_of cs e r)
 round_settings e f r s format cutoff limit cs =
-    round_changed e r cs c (same_event e f && r == s) (with_settings format cutoff limit) refl
-    (λ o before is. changes o before)
-  where
-    c : Command
-    c = SetRound (round_id f s) format cutoff limit
-
-    step : (o : Opened) (before : Option (Settings × Table)) (b : Bool)
-        → with_parts e
-        (cond b (record (settings_now e r o) {
-          format = format;
-          cutoff = cutoff;
-          limit = limit;
-        }) (settings_now e r o))
-        (is_ended e r o.since) (entrants_at e r before o)
-        ≡ cond b (with_settings format cutoff limit (round_at e r before o))
-        (round_at e r before o)
-    step o before true = refl
-    step o before false = refl
-
-    changes : (o : Opened) (before : Option (Settings × Table))
-        → round_at e r before (plus_command c o)
-        ≡ cond (same_event e f && r == s)
-        (with_settings format cutoff limit (round_at e r before o)) (round_at e r before o)
-    changes o before =
-        round_more e r before o c
-        ∙ ap
-        (λ (xs : List Entrant).
-        with_parts e (settings_by e r c (settings_now e r o)) (is_ended e r o.since) xs)
-        (same_entrants e r before o c (λ waiting earlier. refl) (λ n. refl)
-        (λ settings earlier x. refl))
-        ∙ step o before (same_event e f && r == s)
-
--- a command that closes a round, or opens it again
-ends : (e f : Event) (r s : ℕ) (c : Command) (closed : Bool)
-    (change : Settings × Table → Settings × Table) (cs : List Command)
-    → keeps_open e r c ≡ true → ((settings : Settings) → settings_by e r c settings ≡ settings)
-    → ((waiting : List ℕ) (earlier : List Command) → entering e r waiting earlier c ≡ None)
-    → TakesNobodyOut e r c → KeepsValues e r c
-    → closing e r c ≡ cond (same_event e f && r == s) (Some closed) None
-    → ((settings : Settings) (now : Bool) (es : List Entrant)
-    → with_parts e settings closed es ≡ change (with_parts e settings now es))
-    → round_of (cs ++ c ∷ []) e r
-    ≡ cond (same_event e f && r == s) (option_map change (round_of cs e r)) (round_of cs e r)
-ends e f r s c closed change cs closes sets nobody stay keeps ending changes =
-    round_changed e r cs c (same_event e f && r == s) change closes
-    (λ o before is. changed o before)
-  where
-    step : (o : Opened) (before : Option (Settings × Table)) (b : Bool)
-        → with_parts e (settings_now e r o)
-        (unwrap_or (cond b (Some closed) None) (is_ended e r o.since)) (entrants_at e r before o)
-        ≡ cond b (change (round_at e r before o)) (round_at e r before o)
-    step o before true =
-        changes (settings_now e r o) (is_ended e r o.since) (entrants_at e r before o)
-    step o before false = refl
-
-    changed : (o : Opened) (before : Option (Settings × Table))
-        → round_at e r before (plus_command c o)
-        ≡ cond (same_event e f && r == s) (change (round_at e r before o)) (round_at e r before o)
-    changed o before =
-        round_more e r before o c
-        ∙ ap
-        (λ (settings : Settings).
-        with_parts e settings (unwrap_or (closing e r c) (is_ended e r o.since))
-        (entrants_with e r before o c))
-        (sets (settings_now e r o))
-        ∙ ap
-        (λ (xs : List Entrant).
-        with_parts e (settings_now e r o) (unwrap_or (closing e r c) (is_ended e r o.since)) xs)
-        (same_entrants e r before o c nobody stay keeps)
-        ∙ ap
-        (λ (x : Option Bool).
-        with_parts e (settings_now e r o) (unwrap_or x (is_ended e r o.since))
-        (entrants_at e r before o))
-        ending
-        ∙ step o before (same_event e f && r == s)
+    remade e r cs (SetRound (round_id f s) format cutoff limit) (same_event e f && r == s)
+    (with_settings format cutoff limit) refl (λ waiting earlier. refl) (λ n. refl)
+    (λ settings earlier x. refl) (λ settings now es.
+    of_either (λ (x : Settings). with_parts e x now es) (same_event e f && r == s)
+    (record settings { format = format; cutoff = cutoff; limit = limit }) settings)
 
 -- a closing closes its round, and no other
 pub round_close : (e f : Event) (r s : ℕ) (cs : List Command)
     → round_of (cs ++ Close (round_id f s) ∷ []) e r
     ≡ cond (same_event e f && r == s) (option_map with_end (round_of cs e r)) (round_of cs e r)
 round_close e f r s cs =
-    ends e f r s (Close (round_id f s)) true with_end cs refl (λ settings. refl)
-    (λ waiting earlier. refl) (λ n. refl) (λ settings earlier x. refl) refl
-    (λ settings now es. refl)
+    remade e r cs (Close (round_id f s)) (same_event e f && r == s) with_end refl
+    (λ waiting earlier. refl) (λ n. refl) (λ settings earlier x. refl) (λ settings now es.
+    of_either (λ (x : Option Bool). with_parts e settings (unwrap_or x now) es)
+    (same_event e f && r == s) (Some true) None)
 
 -- a round that is opened again is open, and no other is changed
 pub round_reopen : (e f : Event) (r s : ℕ) (cs : List Command)
@@ -299,13 +211,13 @@ pub round_reopen : (e f : Event) (r s : ℕ) (cs : List Command)
     ≡ cond (same_event e f && r == s) (option_map with_reopening (round_of cs e r))
     (round_of cs e r)
 round_reopen e f r s cs =
-    ends e f r s (Reopen (round_id f s)) false with_reopening cs refl (λ settings. refl)
-    (λ waiting earlier. refl) (λ n. refl) (λ settings earlier x. refl) refl
-    (λ settings now es. refl)
+    remade e r cs (Reopen (round_id f s)) (same_event e f && r == s) with_reopening refl
+    (λ waiting earlier. refl) (λ n. refl) (λ settings earlier x. refl) (λ settings now es.
+    of_either (λ (x : Option Bool). with_parts e settings (unwrap_or x now) es)
+    (same_event e f && r == s) (Some false) None)
 
 -- an entry adds an entrant to the first round, and changes no other
-pub round_enter : (e f : Event) (r n : ℕ) (cs : List Command)
-    → round_of (cs ++ Enter f n ∷ []) e r
+pub round_enter : (e f : Event) (r n : ℕ) (cs : List Command) → round_of (cs ++ Enter f n ∷ []) e r
     ≡ cond (same_event e f && r == 1) (option_map (with_entry n) (round_of cs e r))
     (round_of cs e r)
 round_enter e f r n cs =
@@ -321,8 +233,7 @@ round_enter e f r n cs =
         ≡ cond b (with_entry n (round_at e r before o)) (round_at e r before o)
     both true o before = refl
     both false o before =
-        ap
-        (λ (xs : List Entrant). with_parts e (settings_now e r o) (is_ended e r o.since) xs)
+        ap (λ (xs : List Entrant). with_parts e (settings_now e r o) (is_ended e r o.since) xs)
         (append-nil _)
 
     changes : (o : Opened) (before : Option (Settings × Table))
@@ -341,8 +252,7 @@ round_enter e f r n cs =
 pub round_same : (e : Event) (r : ℕ) (cs : List Command) (c : Command) → keeps_open e r c ≡ true
     → ((s : Settings) → settings_by e r c s ≡ s) → closing e r c ≡ None
     → ((waiting : List ℕ) (earlier : List Command) → entering e r waiting earlier c ≡ None)
-    → TakesNobodyOut e r c → KeepsValues e r c
-    → round_of (cs ++ c ∷ []) e r ≡ round_of cs e r
+    → TakesNobodyOut e r c → KeepsValues e r c → round_of (cs ++ c ∷ []) e r ≡ round_of cs e r
 round_same e r cs c closed sets stays nobody stay keeps =
     round_changed e r cs c false (λ round. round) closed
     (λ o before is. still e r before c o sets stays nobody stay keeps)
@@ -395,8 +305,7 @@ none_left_out e r settings (n ∷ ns) =
 -- an opening adds a round with those in it who advance from the one before, and changes no round
 -- that is open
 pub round_open : (e f : Event) (r s : ℕ) (settings : Settings) (cs : List Command) → 1 ≤ s
-    → round_of (cs ++ Open (round_id f s) settings ∷ []) e r
-    ≡ option_or (round_of cs e r)
+    → round_of (cs ++ Open (round_id f s) settings ∷ []) e r ≡ option_or (round_of cs e r)
     (cond (same_event e f && r == s) (Some (with_table settings (opening_table f s settings cs)))
     None)
 unfolding round_in
@@ -404,42 +313,18 @@ round_open e f zero s settings cs low =
     let other : (same_event e f && 0 == s) ≡ false = grind (arith, nat_tests) in
     rw other refl
 round_open e f (suc r) s settings cs low =
-    ap (option_map at) (opened_push e (suc r) cs (Open (round_id f s) settings))
-    ∙ step (opened e (suc r) [] cs) (same_event e f && suc r == s) refl
+    asked_open at e f (suc r) s settings cs (with_table settings (opening_table f s settings cs))
+    (λ o.
+    still e (suc r) (round_in e r o.before) (Open (round_id f s) settings) o (λ s. refl) refl
+    (λ waiting earlier. refl) (λ n. refl) (λ settings earlier x. refl)) (λ h.
+    ap (λ (xs : List Entrant). with_table settings (with_entrants (new_table e settings) xs))
+    (append-nil (entrants_now e (suc r) settings (who_advance (round_in e r cs)))
+    ∙ none_left_out e (suc r) settings (who_advance (round_in e r cs)))
+    ∙ before_opening (λ (x : Event) (before : Option (Settings × Table)).
+    with_table settings (with_newcomers (new_table x settings) (who_advance before))) e f r s cs h)
   where
     at : Opened → Settings × Table
     at o = round_at e (suc r) (round_in e r o.before) o
-
-    made : List ℕ → Event → Settings × Table
-    made first x = with_table settings (with_newcomers (new_table x settings) first)
-
-    fresh : (b : Bool) → (same_event e f && suc r == s) ≡ b
-        → option_map at (option_map (just_opened cs) (cond b (Some settings) None))
-        ≡ cond b (Some (with_table settings (opening_table f s settings cs))) None
-    fresh true h =
-        let event : e ≡ f = same_event-equal e f (grind arith) in
-        let round : suc r ≡ s = eqb-true (suc r) s (grind arith) in
-        let before : r ≡ s - 1 = omega arith in
-        ap Some
-        (ap (λ (xs : List Entrant). with_table settings (with_entrants (new_table e settings) xs))
-        (append-nil (entrants_now e (suc r) settings (who_advance (round_in e r cs)))
-        ∙ none_left_out e (suc r) settings (who_advance (round_in e r cs)))
-        ∙ ap (λ (x : Event). made (who_advance (round_in x r cs)) x) event
-        ∙ ap (λ (n : ℕ). made (who_advance (round_in f n cs)) f) before)
-    fresh false h = refl
-
-    step : (x : Option Opened) (b : Bool) → (same_event e f && suc r == s) ≡ b
-        → option_map at (opened_by e (suc r) cs x (Open (round_id f s) settings))
-        ≡ option_or (option_map at x)
-        (cond b (Some (with_table settings (opening_table f s settings cs))) None)
-    step None b h =
-        ap (λ (t : Bool). option_map at (option_map (just_opened cs) (cond t (Some settings) None)))
-        h
-        ∙ fresh b h
-    step (Some o) b h =
-        ap Some
-        (still e (suc r) (round_in e r o.before) (Open (round_id f s) settings) o (λ s. refl) refl
-        (λ waiting earlier. refl) (λ n. refl) (λ settings earlier x. refl))
 
 -- a round that is taken back is not open any more, and no other is changed
 pub round_cancel : (e f : Event) (r s : ℕ) (cs : List Command)
@@ -448,24 +333,7 @@ pub round_cancel : (e f : Event) (r s : ℕ) (cs : List Command)
 unfolding round_in
 round_cancel e f zero s cs = none_either (same_event e f && 0 == s) None refl
 round_cancel e f (suc r) s cs =
-    ap (option_map at) (opened_push e (suc r) cs c) ∙ step (opened e (suc r) [] cs)
-  where
-    c : Command
-    c = Cancel (round_id f s)
-
-    at : Opened → Settings × Table
-    at o = round_at e (suc r) (round_in e r o.before) o
-
-    here : (o : Opened) (b : Bool)
-        → option_map at (cond b None (Some (plus_command c o))) ≡ cond b None (Some (at o))
-    here o true = refl
-    here o false =
-        ap Some
-        (still e (suc r) (round_in e r o.before) c o (λ s. refl) refl (λ waiting earlier. refl)
-        (λ n. refl) (λ settings earlier x. refl))
-
-    step : (x : Option Opened)
-        → option_map at (opened_by e (suc r) cs x c)
-        ≡ cond (same_event e f && suc r == s) None (option_map at x)
-    step None = none_either (same_event e f && suc r == s) None refl
-    step (Some o) = here o (same_event e f && suc r == s)
+    asked_cancel (option_map (λ (o : Opened). round_at e (suc r) (round_in e r o.before) o)) e f
+    (suc r) s cs (λ o.
+    ap Some (still e (suc r) (round_in e r o.before) (Cancel (round_id f s)) o (λ s. refl) refl
+    (λ waiting earlier. refl) (λ n. refl) (λ settings earlier x. refl)))

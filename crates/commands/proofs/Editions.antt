@@ -3,8 +3,7 @@ use Rattle.std.proofs.Common.{◌≡◌, ℕ, List, [], ◌∷◌, ◌++◌, unw
 use Rattle.std.proofs.Common.{append-nil, subst}
 use Rattle.texts.specs.declared.command.Command.{Command}
 use Rattle.commands.specs.Accepted.{edition_set, edition_after, edition_in}
-use Rattle.commands.specs.declared.index.Index.{Index}
-use Rattle.commands.specs.model.Kept.{IsIndexOf, IsAccepted}
+use Rattle.commands.specs.{declared.index.Index.Index, model.Kept.IsIndexOf, model.Kept.IsAccepted}
 
 edition_push : (edition : ℕ) (cs : List Command) (c : Command)
     → edition_after edition (cs ++ c ∷ []) ≡ unwrap_or (edition_set c) (edition_after edition cs)

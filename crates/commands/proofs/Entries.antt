@@ -2,17 +2,12 @@
 use Rattle.std.proofs.Common.{◌≡◌, ℕ, Bool, true, false, cond, ◌||◌, ◌==◌, List, [], ◌∷◌, ◌++◌}
 use Rattle.std.proofs.Common.{fold, None, Ok, refl, sym, ap, ◌∙◌, eqb-true}
 use Rattle.std.specs.List.{list_any}
-use Rattle.std.proofs.lemmas.List.Folds.{list_any-append}
-use Rattle.std.proofs.lemmas.List.Sums.{fold-append}
+use Rattle.std.proofs.lemmas.List.{Folds.list_any-append, Sums.fold-append}
 use Rattle.commands.specs.History.{History, nothing, added_read, is_seen, answer_of, answer_to}
 use Rattle.commands.specs.History.{entry_refusal_in, read_refusal, after, after_in, history}
-use Rattle.commands.specs.History.{StandsFor}
-use Rattle.commands.specs.History.{spelled_refusal}
-use Rattle.commands.proofs.Known.{read_fit}
-use Rattle.texts.specs.declared.answer.Answer.TheVariants.{Done}
-use Rattle.texts.specs.declared.command.Command.{Command}
-use Rattle.texts.specs.declared.command.RemarkedCommand.{RemarkedCommand}
-use Rattle.texts.specs.Reading.{command_of}
+use Rattle.commands.{specs.History.StandsFor, specs.History.spelled_refusal, proofs.Known.read_fit}
+use Rattle.texts.specs.{declared.answer.Answer.TheVariants.Done, Reading.command_of}
+use Rattle.texts.specs.declared.command.{Command.Command, RemarkedCommand.RemarkedCommand}
 use Rattle.texts.proofs.Words.{spelled_only}
 
 -- a history that stands for a list stands, after one more entry, for the list and that entry
@@ -44,8 +39,7 @@ accepted_new h id text new = rw new refl
 
 -- the id of an entry is new
 pub after_new : (h new : History) (id : ℕ) (text : List ℕ) → is_seen h id ≡ false
-    → new.ids ≡ h.ids ++ id ∷ []
-    → new.accepted
+    → new.ids ≡ h.ids ++ id ∷ [] → new.accepted
     ≡ h.accepted ++ added_read (read_refusal h.accepted (command_of text)) (command_of text)
     → new ≡ after h id text
 unfolding after_in
@@ -69,10 +63,8 @@ module _ (h : History) (id : ℕ) (text : List ℕ) (told : RemarkedCommand)
 
   pub after_done : after h id text ≡ grown h id told.command
   after_done =
-      sym
-      (after_new h (grown h id told.command) id text new refl
-      (ap (λ (more : List Command). h.accepted ++ more)
-      (sym
+      sym (after_new h (grown h id told.command) id text new refl
+      (ap (λ (more : List Command). h.accepted ++ more) (sym
       (ap (λ r. added_read (read_refusal h.accepted r) r) reads
       ∙ ap (λ o. added_read o (Ok told)) not_refused))))
 
@@ -103,8 +95,7 @@ after_ids h i id text = step (is_seen h i) refl
     old false true h2 = h2 refl
     old false false h2 = refl
 
-    step : (b : Bool) → is_seen h i ≡ b
-        → is_seen
+    step : (b : Bool) → is_seen h i ≡ b → is_seen
         (cond b h (let new : History = record { ids = h.ids ++ i ∷ []; accepted = more } in new)) id
         ≡ (is_seen h id || id == i)
     step true seen = old (is_seen h id) (id == i) (λ same. seen_same i id h.ids same seen)

@@ -4,24 +4,19 @@ use Rattle.std.proofs.Common.{cond, List, [], ◌∷◌, ◌++◌, map, filter, 
 use Rattle.std.proofs.Common.{Option, Some, None, option_map, option_to_list, refl, ap, ◌∙◌, sym}
 use Rattle.std.proofs.Common.{append-nil, arith, eqb-true}
 use Rattle.std.specs.Option.{option_or, option_and_then}
-use Rattle.std.proofs.lemmas.Bool.Decides.{nat_tests}
-use Rattle.std.proofs.lemmas.List.Sums.{sum_by-cons}
-use Rattle.formats.specs.declared.events.Event.{Event}
-use Rattle.formats.specs.Events.{same_event}
+use Rattle.std.proofs.lemmas.{Bool.Decides.nat_tests, List.Sums.sum_by-cons}
+use Rattle.formats.specs.{declared.events.Event.Event, Events.same_event}
 use Rattle.formats.proofs.SameEvent.{same_event-equal}
-use Rattle.texts.specs.declared.command.Command.{Command}
+use Rattle.texts.specs.declared.command.{Command.Command, Settings.Settings}
 use Rattle.texts.specs.declared.command.Command.TheVariants.{Open, Withdraw, Cancel}
-use Rattle.texts.specs.declared.command.Settings.{Settings}
 use Rattle.texts.specs.Fields.{round_id}
 use Rattle.rounds.specs.Tables.{Entrant, Table, has_number}
 use Rattle.commands.specs.model.Kept.{newcomer, with_exit, first_of_all, waiting_now, waiting_of}
-use Rattle.commands.specs.Accepted.{Opened, opened, opened_by, just_opened}
-use Rattle.commands.specs.Accepted.{plus_command, is_withdrawal}
-use Rattle.commands.specs.Accepted.{is_ended, settings_now, round_at, who_wait, round_in, round_of}
-use Rattle.commands.proofs.Lookups.{none_either}
-use Rattle.commands.proofs.OneMore.{opened_push, keeps_open, opened_kept, with_parts}
-use Rattle.commands.proofs.OneMore.{entrants_at, entrants_with}
-use Rattle.commands.proofs.OneMore.{round_with, map_same, filter_all}
+use Rattle.commands.specs.Accepted.{Opened, opened, plus_command, is_withdrawal, is_ended}
+use Rattle.commands.specs.Accepted.{settings_now, round_at, who_wait, round_in, round_of}
+use Rattle.commands.proofs.{Lookups.none_either, OneMore.map_same, OneMore.filter_all}
+use Rattle.commands.proofs.OneMore.{keeps_open, opened_kept, with_parts, asked_open, asked_cancel}
+use Rattle.commands.proofs.OneMore.{before_opening, entrants_at, entrants_with, round_with}
 
 -- Lists
 
@@ -50,8 +45,7 @@ count_push p (d ∷ ds) c =
     ∙ step (p c) (cond (p d) 1 0)
     ∙ ap (λ m. cond (p c) (suc m) m) (sym (sum_by-cons (λ x. cond (p x) 1 0) d ds))
   where
-    step : (b : Bool) (k : ℕ)
-        → k + cond b (suc (count_by p ds)) (count_by p ds)
+    step : (b : Bool) (k : ℕ) → k + cond b (suc (count_by p ds)) (count_by p ds)
         ≡ cond b (suc (k + count_by p ds)) (k + count_by p ds)
     step true k = omega arith
     step false k = refl
@@ -71,8 +65,7 @@ waiting_plus e r before o c =
     gone : ℕ
     gone = count_by (is_withdrawal e r) o.since
 
-    step : (b : Bool)
-        → drop (cond b (suc gone) gone) (who_wait before)
+    step : (b : Bool) → drop (cond b (suc gone) gone) (who_wait before)
         ≡ cond b (drop 1 (drop gone (who_wait before))) (drop gone (who_wait before))
     step true = drop_later gone (who_wait before)
     step false = refl
@@ -87,8 +80,7 @@ waiting_more e (suc r) cs c keeps =
     at : Opened → List ℕ
     at o = waiting_now e (suc r) (round_in e r o.before) o
 
-    step : (x : Option Opened)
-        → option_map at (option_map (plus_command c) x)
+    step : (x : Option Opened) → option_map at (option_map (plus_command c) x)
         ≡ option_map (waiting_with e (suc r) c) (option_map at x)
     step None = refl
     step (Some o) = ap Some (waiting_plus e (suc r) (round_in e r o.before) o c)
@@ -98,8 +90,7 @@ pub waiting_same : (e : Event) (r : ℕ) (cs : List Command) (c : Command) → k
     → is_withdrawal e r c ≡ false → waiting_of (cs ++ c ∷ []) e r ≡ waiting_of cs e r
 waiting_same e r cs c keeps stay =
     waiting_more e r cs c keeps
-    ∙ ap
-    (λ (b : Bool). option_map (λ (ns : List ℕ). cond b (drop 1 ns) ns) (waiting_of cs e r))
+    ∙ ap (λ (b : Bool). option_map (λ (ns : List ℕ). cond b (drop 1 ns) ns) (waiting_of cs e r))
     stay
     ∙ step (waiting_of cs e r)
   where
@@ -115,8 +106,7 @@ waiting_exit e f r s n cs =
     waiting_more e r cs (Withdraw (round_id f s) n) refl
     ∙ step (same_event e f && r == s) (waiting_of cs e r)
   where
-    step : (b : Bool) (x : Option (List ℕ))
-        → option_map (λ (ns : List ℕ). cond b (drop 1 ns) ns) x
+    step : (b : Bool) (x : Option (List ℕ)) → option_map (λ (ns : List ℕ). cond b (drop 1 ns) ns) x
         ≡ cond b (option_map (drop 1) x) x
     step true x = refl
     step false None = refl
@@ -124,40 +114,16 @@ waiting_exit e f r s n cs =
 
 -- those who wait once a round is opened
 pub waiting_open : (e f : Event) (r s : ℕ) (settings : Settings) (cs : List Command) → 1 ≤ s
-    → waiting_of (cs ++ Open (round_id f s) settings ∷ []) e r
-    ≡ option_or (waiting_of cs e r)
+    → waiting_of (cs ++ Open (round_id f s) settings ∷ []) e r ≡ option_or (waiting_of cs e r)
     (cond (same_event e f && r == s) (Some (who_wait (round_of cs f (s - 1)))) None)
 waiting_open e f zero s settings cs low =
     let other : (same_event e f && 0 == s) ≡ false = grind (arith, nat_tests) in
     rw other refl
 waiting_open e f (suc r) s settings cs low =
-    ap (option_map at) (opened_push e (suc r) cs (Open (round_id f s) settings))
-    ∙ step (opened e (suc r) [] cs) (same_event e f && suc r == s) refl
-  where
-    at : Opened → List ℕ
-    at o = waiting_now e (suc r) (round_in e r o.before) o
-
-    fresh : (b : Bool) → (same_event e f && suc r == s) ≡ b
-        → option_map at (option_map (just_opened cs) (cond b (Some settings) None))
-        ≡ cond b (Some (who_wait (round_of cs f (s - 1)))) None
-    fresh true h =
-        let event : e ≡ f = same_event-equal e f (grind arith) in
-        let round : suc r ≡ s = eqb-true (suc r) s (grind arith) in
-        let before : r ≡ s - 1 = omega arith in
-        ap (λ (x : Event). Some (who_wait (round_of cs x r))) event
-        ∙ ap (λ (n : ℕ). Some (who_wait (round_of cs f n))) before
-    fresh false h = refl
-
-    step : (x : Option Opened) (b : Bool) → (same_event e f && suc r == s) ≡ b
-        → option_map at (opened_by e (suc r) cs x (Open (round_id f s) settings))
-        ≡ option_or (option_map at x) (cond b (Some (who_wait (round_of cs f (s - 1)))) None)
-    step None b h =
-        ap (λ (t : Bool). option_map at (option_map (just_opened cs) (cond t (Some settings) None)))
-        h
-        ∙ fresh b h
-    step (Some o) b h =
-        ap Some
-        (waiting_plus e (suc r) (round_in e r o.before) o (Open (round_id f s) settings))
+    asked_open (λ o. waiting_now e (suc r) (round_in e r o.before) o) e f (suc r) s settings cs
+    (who_wait (round_of cs f (s - 1)))
+    (λ o. waiting_plus e (suc r) (round_in e r o.before) o (Open (round_id f s) settings))
+    (before_opening (λ (x : Event). who_wait) e f r s cs)
 
 -- nobody waits for a place in a round that is taken back
 pub waiting_cancel : (e f : Event) (r s : ℕ) (cs : List Command)
@@ -165,24 +131,9 @@ pub waiting_cancel : (e f : Event) (r s : ℕ) (cs : List Command)
     ≡ cond (same_event e f && r == s) None (waiting_of cs e r)
 waiting_cancel e f zero s cs = none_either (same_event e f && 0 == s) None refl
 waiting_cancel e f (suc r) s cs =
-    ap (option_map at) (opened_push e (suc r) cs c) ∙ step (opened e (suc r) [] cs)
-  where
-    c : Command
-    c = Cancel (round_id f s)
-
-    at : Opened → List ℕ
-    at o = waiting_now e (suc r) (round_in e r o.before) o
-
-    here : (o : Opened) (b : Bool)
-        → option_map at (cond b None (Some (plus_command c o))) ≡ cond b None (Some (at o))
-    here o true = refl
-    here o false = ap Some (waiting_plus e (suc r) (round_in e r o.before) o c)
-
-    step : (x : Option Opened)
-        → option_map at (opened_by e (suc r) cs x c)
-        ≡ cond (same_event e f && suc r == s) None (option_map at x)
-    step None = none_either (same_event e f && suc r == s) None refl
-    step (Some o) = here o (same_event e f && suc r == s)
+    asked_cancel (option_map (λ (o : Opened). waiting_now e (suc r) (round_in e r o.before) o)) e
+    f (suc r) s cs (λ o.
+    ap Some (waiting_plus e (suc r) (round_in e r o.before) o (Cancel (round_id f s))))
 
 -- Who leaves
 
@@ -191,8 +142,7 @@ exit_at : (e f : Event) (r s n : ℕ) (before : Option (Settings × Table)) (o :
     → round_at e r before (plus_command (Withdraw (round_id f s) n) o)
     ≡ cond (same_event e f && r == s)
     (with_exit n (slice_get (who_wait before) (count_by (is_withdrawal e r) o.since))
-    (round_at e r before o))
-    (round_at e r before o)
+    (round_at e r before o)) (round_at e r before o)
 exit_at e f r s n before o =
     round_with e r before c o (entrants_with e r before o c) (λ settings. refl) refl refl
     ∙ step (same_event e f && r == s)
@@ -222,23 +172,18 @@ exit_at e f r s n before o =
         ap (λ (xs : List Entrant). at (xs ++ newcomer m ∷ []))
         (map_same _ (λ x. refl) (filter (λ (x : Entrant). not (has_number n x)) es))
     step false next =
-        ap at
-        (append-nil _ ∙ map_same _ (λ x. refl) (filter (λ (x : Entrant). true) es)
+        ap at (append-nil _ ∙ map_same _ (λ x. refl) (filter (λ (x : Entrant). true) es)
         ∙ filter_all (λ (x : Entrant). true) (λ x. refl) es)
 
 -- who withdraws leaves one round, and the first of those who wait takes the place
 pub round_exit : (e f : Event) (r s n : ℕ) (cs : List Command)
-    → round_of (cs ++ Withdraw (round_id f s) n ∷ []) e r
-    ≡ cond (same_event e f && r == s)
-    (option_map (with_exit n (option_and_then first_of_all (waiting_of cs f s)))
-    (round_of cs e r))
+    → round_of (cs ++ Withdraw (round_id f s) n ∷ []) e r ≡ cond (same_event e f && r == s)
+    (option_map (with_exit n (option_and_then first_of_all (waiting_of cs f s))) (round_of cs e r))
     (round_of cs e r)
 unfolding round_in
 round_exit e f zero s n cs = none (same_event e f && 0 == s)
   where
-    none : (t : Bool)
-        → None
-        ≡ cond t
+    none : (t : Bool) → None ≡ cond t
         (option_map (with_exit n (option_and_then first_of_all (waiting_of cs f s))) None) None
     none true = refl
     none false = refl
@@ -253,26 +198,17 @@ round_exit e f (suc r) s n cs =
     next = option_and_then first_of_all (waiting_of cs f s)
 
     here : (o : Opened) → opened e (suc r) [] cs ≡ Some o → (b : Bool)
-        → (same_event e f && suc r == s) ≡ b
-        → Some
-        (cond b
-        (with_exit n
-        (slice_get (who_wait (round_in e r o.before))
-        (count_by (is_withdrawal e (suc r)) o.since))
-        (at o))
-        (at o))
-        ≡ cond b (option_map (with_exit n next) (Some (at o))) (Some (at o))
+        → (same_event e f && suc r == s) ≡ b → Some (cond b (with_exit n
+        (slice_get (who_wait (round_in e r o.before)) (count_by (is_withdrawal e (suc r)) o.since))
+        (at o)) (at o)) ≡ cond b (option_map (with_exit n next) (Some (at o))) (Some (at o))
     here o is true h =
         let event : e ≡ f = same_event-equal e f (grind arith) in
         let round : suc r ≡ s = eqb-true (suc r) s (grind arith) in
         let waits : waiting_of cs f s ≡ Some (waiting_now e (suc r) (round_in e r o.before) o) =
-        sym
-        (ap (λ (x : Event). waiting_of cs x (suc r)) event
+        sym (ap (λ (x : Event). waiting_of cs x (suc r)) event
         ∙ ap (λ (k : ℕ). waiting_of cs f k) round)
-        ∙ ap
-        (option_map (λ (x : Opened). waiting_now e (suc r) (round_in e r x.before) x)) is in
-        ap (λ (x : Option ℕ). Some (with_exit n x (at o)))
-        (sym
+        ∙ ap (option_map (λ (x : Opened). waiting_now e (suc r) (round_in e r x.before) x)) is in
+        ap (λ (x : Option ℕ). Some (with_exit n x (at o))) (sym
         (ap (option_and_then first_of_all) waits
         ∙ first_later (count_by (is_withdrawal e (suc r)) o.since)
         (who_wait (round_in e r o.before))))

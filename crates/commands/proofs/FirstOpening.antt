@@ -1,13 +1,10 @@
 -- Where no command takes a round back, the opening that holds is the first one.
 use Rattle.std.proofs.Common.{◌≡◌, ℕ, Bool, true, false, ◌||◌, cond, List, [], ◌∷◌, ◌++◌, Option}
-use Rattle.std.proofs.Common.{Some}
-use Rattle.std.proofs.Common.{None, option_map, refl, ap, ◌∙◌, sym, append_assoc, append-nil}
-use Rattle.std.specs.Option.{option_or}
-use Rattle.std.specs.List.{list_any}
+use Rattle.std.proofs.Common.{Some, None, option_map, refl, ap, ◌∙◌, sym, append_assoc, append-nil}
+use Rattle.std.specs.{Option.option_or, List.list_any}
 use Rattle.std.proofs.lemmas.Bool.{false≢true}
 use Rattle.formats.specs.declared.events.Event.{Event}
-use Rattle.texts.specs.declared.command.Command.{Command}
-use Rattle.texts.specs.declared.command.Settings.{Settings}
+use Rattle.texts.specs.declared.command.{Command.Command, Settings.Settings}
 use Rattle.commands.specs.Accepted.{Opened, opened, opened_after, opening, is_cancelled}
 use Rattle.commands.specs.Accepted.{just_opened, plus_command}
 use Rattle.commands.specs.OpeningLaws.{first_opened, FirstOpeningHolds}
@@ -33,8 +30,7 @@ stays_opened : (e : Event) (r : ℕ) (earlier : List Command) (o : Opened) (cs :
 stays_opened e r earlier o [] none =
     ap (λ (since : List Command). Some (record o { since = since })) (sym (append-nil o.since))
 stays_opened e r earlier o (c ∷ cs) none =
-    ap
-    (λ (b : Bool).
+    ap (λ (b : Bool).
     opened_after e r (earlier ++ c ∷ []) (cond b None (Some (plus_command c o))) cs)
     (none_first (is_cancelled e r c) (list_any (is_cancelled e r) cs) none)
     ∙ stays_opened e r (earlier ++ c ∷ []) (plus_command c o) cs
@@ -55,8 +51,7 @@ opened_is_first e r earlier (c ∷ cs) none =
 
     step : (o : Option Settings) → none_cancelled e r cs
         → opened e r here cs ≡ first_opened e r here cs
-        → opened_after e r here (option_map (just_opened earlier) o) cs
-        ≡ option_or
+        → opened_after e r here (option_map (just_opened earlier) o) cs ≡ option_or
         (option_map (λ settings. record { before = earlier; settings = settings; since = cs }) o)
         (first_opened e r here cs)
     step None later same = same

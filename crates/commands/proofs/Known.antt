@@ -1,25 +1,19 @@
 -- What a program answers that knows fewer editions.
-use Rattle.std.proofs.Common.{◌≡◌, ℕ, ◌≤◌, ◌<◌, Bool, true, false, cond, nat_le, List, [], ◌∷◌}
-use Rattle.std.proofs.Common.{◌++◌, fold, Option, Some, None, Result, Ok, Err, refl, sym, ap, ◌∙◌}
-use Rattle.std.proofs.Common.{arith}
+use Rattle.std.proofs.Common.{◌≡◌, ◌≤◌, ◌<◌, [], ◌∷◌, fold, Some, None, Ok, Err, refl, sym, ap, ◌∙◌}
+use Rattle.std.proofs.Common.{ℕ, Bool, true, false, cond, nat_le, List, ◌++◌, Option, Result, arith}
 use Rattle.std.specs.List.{AllByRecursion}
-use Rattle.std.proofs.lemmas.List.Elements.{recursion_from_All}
+use Rattle.std.proofs.lemmas.{List.Elements.recursion_from_All, Bool.Decides.nat_tests}
 use Rattle.std.proofs.lemmas.Bool.{false≢true}
-use Rattle.std.proofs.lemmas.Bool.Decides.{nat_tests}
-use Rattle.texts.specs.declared.answer.Code.{Code}
-use Rattle.texts.specs.declared.answer.Code.TheVariants as code
-use Rattle.texts.specs.declared.command.Command.{Command}
-use Rattle.texts.specs.declared.command.Command.TheVariants.{SetEdition}
-use Rattle.texts.specs.declared.command.RemarkedCommand.{RemarkedCommand}
-use Rattle.texts.specs.declared.reading.CommandFault.{CommandFault}
-use Rattle.texts.specs.Reading.{command_of}
+use Rattle.texts.specs.declared.{answer.Code.Code, command.RemarkedCommand.RemarkedCommand}
+use Rattle.texts.specs.declared.command.Command.{Command, TheVariants.SetEdition}
+use Rattle.texts.specs.{declared.reading.CommandFault.CommandFault, Reading.command_of, Table.rows}
 use Rattle.texts.specs.Spelling.{IsFit, IsFitRemark, last_edition, spelling, with_remark_text}
-use Rattle.texts.specs.Table.{rows}
 use Rattle.texts.proofs.Words.{spelled_only}
 use Rattle.commands.specs.History.{History, nothing, answer_of, is_seen, added_read, knows}
 use Rattle.commands.specs.History.{spelled_refusal, read_refusal, read_refusal_in, entry_refusal_in}
 use Rattle.commands.specs.History.{answer_in, after_in, history_in}
 use Rattle.commands.specs.EditionLaws.{SetsNone, AreWithout, AnswersAsEarlier}
+use Rattle.texts.specs.declared.answer.Code.TheVariants as code
 
 -- This program knows each command.
 
@@ -46,9 +40,7 @@ module _ (k later : ℕ) (most : k ≤ later) where
       step : (a b : Bool) → nat_le e k ≡ a → nat_le e later ≡ b → nat_le e later ≡ nat_le e k
       step true b known is = grind (arith, nat_tests)
       step false true known is =
-          absurd
-          (other
-          (let low : k < e = grind (arith, nat_tests) in low)
+          absurd (other (let low : k < e = grind (arith, nat_tests) in low)
           (let within : e ≤ later = grind (arith, nat_tests) in within))
       step false false known is = is ∙ sym known
 
@@ -76,12 +68,10 @@ module _ (k later : ℕ) (most : k ≤ later) where
   unfolding after_in
   after_alike h id text other =
       ap (λ (o : Option Code).
-      cond (is_seen h id) h
-      (let new : History = record {
+      cond (is_seen h id) h (let new : History = record {
         ids = h.ids ++ id ∷ [];
         accepted = h.accepted ++ added_read o (command_of text);
-      } in new))
-      (read_alike h.accepted text (command_of text) refl other)
+      } in new)) (read_alike h.accepted text (command_of text) refl other)
 
   fold_alike : (h : History) (entries : List (ℕ × List ℕ))
       → AllByRecursion (λ entry. SetsNone k later entry.1) entries

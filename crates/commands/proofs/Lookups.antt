@@ -1,9 +1,7 @@
 -- Looking up what commands say, after one more command.
 use Rattle.std.proofs.Common.{◌≡◌, ℕ, zero, suc, List, [], ◌∷◌, ◌++◌, length, slice_get, Option}
 use Rattle.std.proofs.Common.{Some, None, option_map, is_some, unwrap_or, Bool, true, false, cond}
-use Rattle.std.proofs.Common.{Result, Ok, Err}
-use Rattle.std.proofs.Common.{OnErr, ap, ◌∙◌, refl}
-use Rattle.std.proofs.Common.{sym}
+use Rattle.std.proofs.Common.{Result, Ok, Err, OnErr, ap, ◌∙◌, refl, sym}
 use Rattle.std.specs.Option.{option_or, option_and_then}
 use Rattle.std.proofs.lemmas.Bool.{false≢true}
 use Rattle.texts.specs.declared.command.Command.{Command}
@@ -27,6 +25,12 @@ pub none_either : {X : Type 0} (b : Bool) (x : Option X) → x ≡ None → x �
 none_either true x is = is
 none_either false x is = refl
 
+-- what is asked of one of two
+pub of_either : {X Y : Type 0} (f : X → Y) (b : Bool) (x y : X)
+    → f (cond b x y) ≡ cond b (f x) (f y)
+of_either f true x y = refl
+of_either f false x y = refl
+
 pub some≢none : {X : Type 0} (x : X) → Some x ≡ None → ⊥
 some≢none x h = false≢true (sym (ap is_some h))
 
@@ -34,11 +38,6 @@ some≢none x h = false≢true (sym (ap is_some h))
 pub on_err : {T E P : Type 0} (r : Result T E) → P → OnErr r P
 on_err (Ok x) p = tt
 on_err (Err e) p = p
-
--- what follows from what holds where memory ran out
-pub on_err_then : {T E P Q : Type 0} (r : Result T E) → (P → Q) → OnErr r P → OnErr r Q
-on_err_then (Ok x) f h = tt
-on_err_then (Err e) f h = f h
 
 pub last_push : {X : Type 0} (f : Command → Option X) (cs : List Command) (c : Command)
     → last_of f (cs ++ c ∷ []) ≡ option_or (f c) (last_of f cs)
@@ -72,16 +71,14 @@ standing_push {X} given other (d ∷ ds) c =
     step : (o p : Option X)
         → standing given other (ds ++ c ∷ []) ≡ stands (given c) p (standing given other ds)
         → option_or (option_map (unwrap_or (option_or p (last_of other ds))) o)
-        (standing given other (ds ++ c ∷ []))
-        ≡ stands (given c) p
+        (standing given other (ds ++ c ∷ [])) ≡ stands (given c) p
         (option_or (option_map (unwrap_or (last_of other ds)) o) (standing given other ds))
     step None p h = h
     step (Some x) p h = ap Some (later p (last_of other ds) x)
 
 -- a command that says neither leaves what counts
 pub standing_kept : {X : Type 0} (given other : Command → Option X) (cs : List Command)
-    (c : Command)
-    → given c ≡ None → other c ≡ None
+    (c : Command) → given c ≡ None → other c ≡ None
     → standing given other (cs ++ c ∷ []) ≡ standing given other cs
 standing_kept {X} given other cs c none same =
     standing_push given other cs c ∙ rw (none, same) (step (standing given other cs))
@@ -104,8 +101,7 @@ said_push f (d ∷ ds) c zero none = refl
 said_push f (d ∷ ds) c (suc i) none = said_push f ds c i none
 
 pub found_push : {X : Type 0} (f : Command → Option X) (cs : List Command) (c : Command)
-    (place : Option ℕ)
-    → f c ≡ None
+    (place : Option ℕ) → f c ≡ None
     → option_and_then (λ (i : ℕ). option_and_then f (slice_get (cs ++ c ∷ []) i)) place
     ≡ option_and_then (λ (i : ℕ). option_and_then f (slice_get cs i)) place
 found_push f cs c None none = refl

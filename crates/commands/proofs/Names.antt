@@ -1,10 +1,7 @@
 -- Names by their bytes, and what is looked up by them.
 use Rattle.std.proofs.Common.{◌≡◌, ℕ, Bool, true, false, cond, List, Some, refl, sym, ap, ◌∙◌}
-use Rattle.std.specs.Global.{Vec}
-use Rattle.std.specs.Map.{lookup, KeepsOthers}
-use Rattle.std.specs.Prelude.{bytes_eq}
-use Rattle.std.proofs.lemmas.Cmp.{nat_list_eq_equiv}
-use Rattle.std.proofs.lemmas.Slice.Eq.{bytes_eq-Decides}
+use Rattle.std.specs.{Global.Vec, Map.lookup, Map.KeepsOthers, Prelude.bytes_eq}
+use Rattle.std.proofs.lemmas.{Cmp.nat_list_eq_equiv, Slice.Eq.bytes_eq-Decides}
 
 pub same_name : (xs ys : List ℕ) → bytes_eq xs ys ≡ true → xs ≡ ys
 same_name xs ys h = (bytes_eq-Decides xs ys).0 h
@@ -32,16 +29,13 @@ other_name name other old new h unlike =
 pub names_after : {X : Type 0} (name : List ℕ) (n : X) (old new : List (Vec ℕ × X))
     → lookup (λ k. bytes_eq name k.items) new ≡ Some n
     → KeepsOthers (λ x y. bytes_eq x.items y.items) (λ k. bytes_eq name k.items) old new
-    → (other : List ℕ)
-    → lookup (λ k. bytes_eq other k.items) new
+    → (other : List ℕ) → lookup (λ k. bytes_eq other k.items) new
     ≡ cond (bytes_eq name other) (Some n) (lookup (λ k. bytes_eq other k.items) old)
 names_after {X} name n old new here others other = step (bytes_eq name other) refl
   where
-    step : (b : Bool) → bytes_eq name other ≡ b
-        → lookup (λ k. bytes_eq other k.items) new
+    step : (b : Bool) → bytes_eq name other ≡ b → lookup (λ k. bytes_eq other k.items) new
         ≡ cond b (Some n) (lookup (λ k. bytes_eq other k.items) old)
     step true is =
-        ap (λ (x : List ℕ). lookup (λ k. bytes_eq x k.items) new)
-        (sym (same_name name other is))
+        ap (λ (x : List ℕ). lookup (λ k. bytes_eq x k.items) new) (sym (same_name name other is))
         ∙ here
     step false is = other_name name other old new others is

@@ -2,12 +2,9 @@
 use Rattle.std.proofs.Common.{◌≡◌, ℕ, zero, suc, ◌<◌, ◌≤◌, ◌==◌, Bool, false, ◌||◌, nat_le, List}
 use Rattle.std.proofs.Common.{[], ◌∷◌, map, length, take, get_or, Option, None, refl, sym, ap, ◌∙◌}
 use Rattle.std.proofs.Common.{arith, add-one}
-use Rattle.std.specs.Prelude.{nat_eq}
-use Rattle.std.specs.List.{list_any, IsDistinct}
-use Rattle.std.proofs.lemmas.Bool.Decides.{nat_tests}
-use Rattle.std.proofs.lemmas.List.{length-map, length-take-le}
-use Rattle.std.proofs.lemmas.List.Folds.{list_any_more}
-use Rattle.std.proofs.lemmas.Map.Keys.{apart_from_distinct}
+use Rattle.std.specs.{Prelude.nat_eq, List.list_any, List.IsDistinct}
+use Rattle.std.proofs.lemmas.{Bool.Decides.nat_tests, Map.Keys.apart_from_distinct}
+use Rattle.std.proofs.lemmas.List.{length-map, length-take-le, Folds.list_any_more}
 use Rattle.attempts.specs.declared.Unit.{Unit as Measure}
 use Rattle.formats.specs.declared.events.Format.{Format}
 use Rattle.rounds.specs.Tables.{empty_table, has_number, enter_fault}
@@ -34,8 +31,7 @@ none_before ns n i d once within is (suc j) below =
 
 -- nothing keeps the next of the numbers out
 pub may_enter : (format : Format) (unit : Measure) (cutoff : Option (ℕ × ℕ)) (ns : List ℕ)
-    (n i d : ℕ)
-    → IsDistinct nat_eq ns → length ns ≤ 999 → i < length ns → n ≡ get_or ns i d
+    (n i d : ℕ) → IsDistinct nat_eq ns → length ns ≤ 999 → i < length ns → n ≡ get_or ns i d
     → enter_fault (with_newcomers (empty_table format unit cutoff) (take i ns)) n ≡ None
 may_enter format unit cutoff ns n i d once few within is =
     let absent : list_any (has_number n) (map newcomer (take i ns)) ≡ false = is_among n (take i ns)

@@ -1,45 +1,37 @@
 -- What one more command makes of a list of accepted commands.
 use Rattle.std.proofs.Common.{◌≡◌, ℕ, zero, suc, Bool, true, false, not, ◌||◌, ◌&&◌, ◌==◌, cond}
-use Rattle.std.proofs.Common.{unwrap_or}
-use Rattle.std.proofs.Common.{List, [], ◌∷◌, ◌++◌, map, filter, Option}
-use Rattle.std.proofs.Common.{Some, None, is_some, option_map, option_to_list, refl, ap, ◌∙◌, sym}
-use Rattle.std.proofs.Common.{append_assoc, append-nil}
-use Rattle.std.specs.Option.{option_or, option_and_then}
-use Rattle.std.specs.List.{list_any}
+use Rattle.std.proofs.Common.{unwrap_or, List, [], ◌∷◌, ◌++◌, map, filter, Option, Some, None}
+use Rattle.std.proofs.Common.{is_some, option_map, option_to_list, refl, ap, ◌∙◌, sym, append_assoc}
+use Rattle.std.proofs.Common.{append-nil, arith, eqb-true, ◌-◌}
+use Rattle.std.specs.{Option.option_or, Option.option_and_then, List.list_any}
 use Rattle.std.proofs.lemmas.Bool.{false≢true}
-use Rattle.std.proofs.lemmas.List.{map-append}
-use Rattle.std.proofs.lemmas.List.Folds.{list_any-append}
+use Rattle.std.proofs.lemmas.List.{map-append, Folds.list_any-append}
 use Rattle.cube.specs.declared.moves.Move.{Move}
 use Rattle.attempts.specs.declared.Value.{Value}
-use Rattle.formats.specs.declared.events.Event.{Event}
+use Rattle.formats.{specs.declared.events.Event.Event, proofs.SameEvent.same_event-equal}
 use Rattle.formats.specs.Events.{unit_of, same_event}
-use Rattle.texts.specs.declared.command.Command.{Command}
-use Rattle.texts.specs.declared.command.Command.TheVariants.{Cancel}
-use Rattle.texts.specs.Fields.{round_id}
-use Rattle.texts.specs.declared.command.Settings.{Settings}
+use Rattle.texts.specs.declared.command.Command.{Command, TheVariants.Open, TheVariants.Cancel}
+use Rattle.texts.specs.{Fields.round_id, declared.command.Settings.Settings}
 use Rattle.rounds.specs.Tables.{Entrant, Table, empty_table}
 use Rattle.commands.specs.model.Kept.{newcomer}
-use Rattle.commands.specs.Accepted.{last_of, Opened, opened, opened_after, opened_by, opening}
-use Rattle.commands.specs.Accepted.{is_cancelled, just_opened, plus_command, scrambling}
-use Rattle.commands.specs.Accepted.{rescrambling}
-use Rattle.commands.specs.Accepted.{scramble_since, scramble_of, settings_by, settings_after}
-use Rattle.commands.specs.Accepted.{takes_out, entering, one_value, values_after, entrant_after}
-use Rattle.commands.specs.Accepted.{stays, entrants_left, entrants_after, closing, is_ended}
-use Rattle.commands.specs.Accepted.{settings_now, table_of, who_advance, who_wait, round_at}
-use Rattle.commands.specs.Accepted.{round_in, round_of}
-use Rattle.commands.proofs.Lookups.{last_push, stands, standing_push}
+use Rattle.commands.specs.Accepted.{last_of, plus_command, rescrambling, values_after, settings_now}
+use Rattle.commands.specs.Accepted.{Opened, opened, opening, solving, closing}
+use Rattle.commands.specs.Accepted.{opened_after, is_cancelled, entrant_after, stays, entrants_left}
+use Rattle.commands.specs.Accepted.{opened_by, name_given, renaming, takes_out, entering, one_value}
+use Rattle.commands.specs.Accepted.{just_opened, scrambling, scramble_of, settings_by, who_advance}
+use Rattle.commands.specs.Accepted.{is_withdrawal, scramble_since, settings_after, entrants_after}
+use Rattle.commands.specs.Accepted.{is_ended, table_of, who_wait, round_at, round_in, round_of}
+use Rattle.commands.proofs.Lookups.{last_push, stands, standing_push, standing_kept}
 
 -- a round after commands, and one more
 after_push : (e : Event) (r : ℕ) (earlier : List Command) (state : Option Opened)
-    (cs : List Command) (c : Command)
-    → opened_after e r earlier state (cs ++ c ∷ [])
+    (cs : List Command) (c : Command) → opened_after e r earlier state (cs ++ c ∷ [])
     ≡ opened_by e r (earlier ++ cs) (opened_after e r earlier state cs) c
 after_push e r earlier state [] c =
     ap (λ (before : List Command). opened_by e r before state c) (sym (append-nil earlier))
 after_push e r earlier state (d ∷ ds) c =
     after_push e r (earlier ++ d ∷ []) (opened_by e r earlier state d) ds c
-    ∙ ap
-    (λ (before : List Command).
+    ∙ ap (λ (before : List Command).
     opened_by e r before
     (opened_after e r (earlier ++ d ∷ []) (opened_by e r earlier state d) ds) c)
     (append_assoc earlier (d ∷ []) ds)
@@ -52,6 +44,47 @@ opened_push e r cs c = after_push e r [] None cs c
 -- a command neither opens a round nor takes back that it was opened
 abbrev pub keeps_open : Event → ℕ → Command → Bool
 keeps_open e r c = not (is_some (opening e r c) || is_cancelled e r c)
+
+-- what a command does but change rounds: whom it names, which scrambles it gives, whether it opens
+-- no round and takes none back, takes somebody out, enters a solution
+abbrev pub Besides : Type 0
+Besides =
+    Option (List ℕ) × Option (List ℕ) × Option (List Move) × Option (List Move) × Bool × Bool
+    × Option Bool
+
+abbrev pub besides : Event → ℕ → ℕ → ℕ → Command → Besides
+besides f s k n c = (
+  name_given n c,
+  renaming n c,
+  scrambling f s k c,
+  rescrambling f s k c,
+  keeps_open f s c,
+  is_withdrawal f s c,
+  solving f s k n c,
+)
+
+-- a command that names nobody, gives no scramble, opens no round, takes none back, takes nobody out
+-- and enters no solution
+abbrev pub ChangesOnly : Command → Type 0
+ChangesOnly c =
+    (f : Event) (s k n : ℕ) → besides f s k n c ≡ (None, None, None, None, true, false, None)
+
+-- the same of one that may enter solutions, of one that may name somebody, and of one that may give
+-- scrambles
+abbrev pub EntersOnly : Command → Type 0
+EntersOnly c =
+    (f : Event) (s k n : ℕ)
+    → besides f s k n c ≡ (None, None, None, None, true, false, solving f s k n c)
+
+abbrev pub NamesOnly : Command → Type 0
+NamesOnly c =
+    (f : Event) (s k n : ℕ)
+    → besides f s k n c ≡ (name_given n c, renaming n c, None, None, true, false, None)
+
+abbrev pub ScramblesOnly : Command → Type 0
+ScramblesOnly c =
+    (f : Event) (s k n : ℕ) → besides f s k n c
+    ≡ (None, None, scrambling f s k c, rescrambling f s k c, true, false, None)
 
 -- such a command opens nothing
 pub opens_none : (e : Event) (r : ℕ) (c : Command) → keeps_open e r c ≡ true → opening e r c ≡ None
@@ -81,6 +114,86 @@ opened_kept e r cs c h = opened_push e r cs c ∙ step (opened e r [] cs)
     step (Some o) =
         ap (λ (b : Bool). cond b None (Some (plus_command c o))) (cancels_none e r c h)
 
+-- What is asked of the opening of a round, after one more command
+
+-- a command that takes no round back
+pub asked_push : {X : Type 0} (asked next : Option Opened → X) (e : Event) (r : ℕ)
+    (cs : List Command) (c : Command) → is_cancelled e r c ≡ false → asked None ≡ next None
+    → ((s : Settings) → asked (Some (just_opened cs s)) ≡ next None)
+    → ((o : Opened) → asked (Some (plus_command c o)) ≡ next (Some o))
+    → asked (opened e r [] (cs ++ c ∷ [])) ≡ next (opened e r [] cs)
+asked_push asked next e r cs c stays none new more =
+    ap asked (opened_push e r cs c) ∙ step (opened e r [] cs)
+  where
+    first : (y : Option Settings) → asked (option_map (just_opened cs) y) ≡ next None
+    first None = none
+    first (Some s) = new s
+
+    step : (x : Option Opened) → asked (opened_by e r cs x c) ≡ next x
+    step None = first (opening e r c)
+    step (Some o) =
+        ap (λ (b : Bool). asked (cond b None (Some (plus_command c o)))) stays ∙ more o
+
+-- a round that is taken back is not open any more, and each other one has one more command
+pub asked_cancel : {X : Type 0} (asked : Option Opened → X) (e f : Event) (r s : ℕ)
+    (cs : List Command) → ((o : Opened)
+    → asked (Some (plus_command (Cancel (round_id f s)) o)) ≡ asked (Some o))
+    → asked (opened e r [] (cs ++ Cancel (round_id f s) ∷ []))
+    ≡ cond (same_event e f && r == s) (asked None) (asked (opened e r [] cs))
+asked_cancel asked e f r s cs more =
+    ap asked (opened_push e r cs (Cancel (round_id f s)))
+    ∙ step (opened e r [] cs)
+  where
+    nothing : (b : Bool) → asked None ≡ cond b (asked None) (asked None)
+    nothing true = refl
+    nothing false = refl
+
+    here : (o : Opened) (b : Bool)
+        → asked (cond b None (Some (plus_command (Cancel (round_id f s)) o)))
+        ≡ cond b (asked None) (asked (Some o))
+    here o true = refl
+    here o false = more o
+
+    step : (x : Option Opened) → asked (opened_by e r cs x (Cancel (round_id f s)))
+        ≡ cond (same_event e f && r == s) (asked None) (asked x)
+    step None = nothing (same_event e f && r == s)
+    step (Some o) = here o (same_event e f && r == s)
+
+-- an opening opens its round, and is one more command of one that is open
+pub asked_open : {X : Type 0} (asked : Opened → X) (e f : Event) (r s : ℕ) (settings : Settings)
+    (cs : List Command) (made : X)
+    → ((o : Opened) → asked (plus_command (Open (round_id f s) settings) o) ≡ asked o)
+    → ((same_event e f && r == s) ≡ true → asked (just_opened cs settings) ≡ made)
+    → option_map asked (opened e r [] (cs ++ Open (round_id f s) settings ∷ []))
+    ≡ option_or (option_map asked (opened e r [] cs))
+    (cond (same_event e f && r == s) (Some made) None)
+asked_open asked e f r s settings cs made stays new =
+    ap (option_map asked) (opened_push e r cs (Open (round_id f s) settings))
+    ∙ step (opened e r [] cs)
+  where
+    first : (b : Bool) → (same_event e f && r == s) ≡ b
+        → option_map asked (option_map (just_opened cs) (cond b (Some settings) None))
+        ≡ cond b (Some made) None
+    first true h = ap Some (new h)
+    first false h = refl
+
+    step : (x : Option Opened)
+        → option_map asked (opened_by e r cs x (Open (round_id f s) settings))
+        ≡ option_or (option_map asked x) (cond (same_event e f && r == s) (Some made) None)
+    step None = first (same_event e f && r == s) refl
+    step (Some o) = ap Some (stays o)
+
+-- the round before one that is opened
+pub before_opening : {X : Type 0} (asked : Event → Option (Settings × Table) → X) (e f : Event)
+    (r s : ℕ) (cs : List Command) → (same_event e f && suc r == s) ≡ true
+    → asked e (round_of cs e r) ≡ asked f (round_of cs f (s - 1))
+before_opening asked e f r s cs h =
+    let event : e ≡ f = same_event-equal e f (grind arith) in
+    let round : suc r ≡ s = eqb-true (suc r) s (grind arith) in
+    let before : r ≡ s - 1 = omega arith in
+    ap (λ (x : Event). asked x (round_of cs x r)) event
+    ∙ ap (λ (n : ℕ). asked f (round_of cs f n)) before
+
 -- one more command changes the values by that command alone
 pub values_push : (e : Event) (r : ℕ) (settings : Settings) (n : ℕ) (earlier : List Command)
     (vs : List Value) (cs : List Command) (c : Command)
@@ -90,8 +203,7 @@ values_push e r settings n earlier vs [] c =
     ap (λ (before : List Command). one_value e r settings n before vs c) (sym (append-nil earlier))
 values_push e r settings n earlier vs (d ∷ ds) c =
     values_push e r settings n (earlier ++ d ∷ []) (one_value e r settings n earlier vs d) ds c
-    ∙ ap
-    (λ (before : List Command).
+    ∙ ap (λ (before : List Command).
     one_value e r settings n before
     (values_after e r settings n (earlier ++ d ∷ []) (one_value e r settings n earlier vs d) ds) c)
     (append_assoc earlier (d ∷ []) ds)
@@ -117,17 +229,14 @@ or_last false false = refl
 
 -- one more command changes each of these by itself, and may take them out
 pub left_push : (e : Event) (r : ℕ) (settings : Settings) (earlier cs : List Command) (c : Command)
-    (ns : List ℕ)
-    → entrants_left e r settings earlier (cs ++ c ∷ []) ns
+    (ns : List ℕ) → entrants_left e r settings earlier (cs ++ c ∷ []) ns
     ≡ left_more e r settings (earlier ++ cs) c (entrants_left e r settings earlier cs ns)
 left_push e r settings earlier cs c [] = refl
 left_push e r settings earlier cs c (n ∷ ns) =
-    ap
-    (λ (b : Bool).
+    ap (λ (b : Bool).
     map (entrant_after e r settings earlier (cs ++ c ∷ []))
     (cond (not b) (n ∷ filter (stays e r (cs ++ c ∷ [])) ns)
-    (filter (stays e r (cs ++ c ∷ [])) ns)))
-    (list_any-append (takes_out e r n) cs (c ∷ [])
+    (filter (stays e r (cs ++ c ∷ [])) ns))) (list_any-append (takes_out e r n) cs (c ∷ [])
     ∙ or_last (list_any (takes_out e r n) cs) (takes_out e r n c))
     ∙ step (list_any (takes_out e r n) cs) (takes_out e r n c) refl
     (left_push e r settings earlier cs c ns)
@@ -148,32 +257,23 @@ left_push e r settings earlier cs c (n ∷ ns) =
         → rest ≡ left_more e r settings (earlier ++ cs) c (entrants_left e r settings earlier cs ns)
         → map (entrant_after e r settings earlier (cs ++ c ∷ []))
         (cond (not (b || t)) (n ∷ filter (stays e r (cs ++ c ∷ [])) ns)
-        (filter (stays e r (cs ++ c ∷ [])) ns))
-        ≡ left_more e r settings (earlier ++ cs) c
+        (filter (stays e r (cs ++ c ∷ [])) ns)) ≡ left_more e r settings (earlier ++ cs) c
         (map (entrant_after e r settings earlier cs)
         (cond (not b) (n ∷ filter (stays e r cs) ns) (filter (stays e r cs) ns)))
     step true t is h = h
     step false true is h =
         h
-        ∙ ap
-        (λ (x : Bool).
-        map one
-        (cond (not x)
-        (entrant_after e r settings earlier cs n ∷ filter (is_left_by e r c)
+        ∙ ap (λ (x : Bool).
+        map one (cond (not x) (entrant_after e r settings earlier cs n ∷ filter (is_left_by e r c)
         (entrants_left e r settings earlier cs ns))
-        (filter (is_left_by e r c) (entrants_left e r settings earlier cs ns))))
-        (sym is)
+        (filter (is_left_by e r c) (entrants_left e r settings earlier cs ns)))) (sym is)
     step false false is h =
         ap (λ (x : Entrant). x ∷ rest) entrant
         ∙ ap (λ (xs : List Entrant). one (entrant_after e r settings earlier cs n) ∷ xs) h
-        ∙ ap
-        (λ (x : Bool).
-        map one
-        (cond (not x)
-        (entrant_after e r settings earlier cs n ∷ filter (is_left_by e r c)
+        ∙ ap (λ (x : Bool).
+        map one (cond (not x) (entrant_after e r settings earlier cs n ∷ filter (is_left_by e r c)
         (entrants_left e r settings earlier cs ns))
-        (filter (is_left_by e r c) (entrants_left e r settings earlier cs ns))))
-        (sym is)
+        (filter (is_left_by e r c) (entrants_left e r settings earlier cs ns)))) (sym is)
 
 pub filter_append : {X : Type 0} (p : X → Bool) (xs ys : List X)
     → filter p (xs ++ ys) ≡ filter p xs ++ filter p ys
@@ -187,8 +287,7 @@ filter_append {X} p (x ∷ xs) ys = step (p x) (filter_append p xs ys)
     step false h = h
 
 pub more_append : (e : Event) (r : ℕ) (settings : Settings) (earlier : List Command) (c : Command)
-    (xs ys : List Entrant)
-    → left_more e r settings earlier c (xs ++ ys)
+    (xs ys : List Entrant) → left_more e r settings earlier c (xs ++ ys)
     ≡ left_more e r settings earlier c xs ++ left_more e r settings earlier c ys
 more_append e r settings earlier c xs ys =
     ap (map (one_more e r settings earlier c)) (filter_append (is_left_by e r c) xs ys)
@@ -210,31 +309,25 @@ entrants_push e r settings waiting earlier [] c =
     append-nil _ ∙ step (entering e r waiting earlier c)
     ∙ ap (λ (before : List Command). entered_last e r waiting before c) (sym (append-nil earlier))
   where
-    step : (o : Option ℕ)
-        → entrants_left e r settings (earlier ++ c ∷ []) [] (option_to_list o)
+    step : (o : Option ℕ) → entrants_left e r settings (earlier ++ c ∷ []) [] (option_to_list o)
         ≡ option_to_list (option_map newcomer o)
     step None = refl
     step (Some n) = refl
 entrants_push e r settings waiting earlier (d ∷ ds) c =
-    ap
-    (λ (xs : List Entrant). xs ++ entrants_after e r settings waiting here (ds ++ c ∷ []))
+    ap (λ (xs : List Entrant). xs ++ entrants_after e r settings waiting here (ds ++ c ∷ []))
     (left_push e r settings here ds c new)
-    ∙ ap
-    (λ (xs : List Entrant).
+    ∙ ap (λ (xs : List Entrant).
     left_more e r settings (here ++ ds) c (entrants_left e r settings here ds new) ++ xs)
     (entrants_push e r settings waiting here ds c)
-    ∙ ap
-    (λ (before : List Command).
+    ∙ ap (λ (before : List Command).
     left_more e r settings before c (entrants_left e r settings here ds new) ++
     (left_more e r settings before c there ++ entered_last e r waiting before c))
     (append_assoc earlier (d ∷ []) ds)
-    ∙ sym
-    (append_assoc
+    ∙ sym (append_assoc
     (left_more e r settings (earlier ++ d ∷ ds) c (entrants_left e r settings here ds new))
     (left_more e r settings (earlier ++ d ∷ ds) c there)
     (entered_last e r waiting (earlier ++ d ∷ ds) c))
-    ∙ ap (λ (xs : List Entrant). xs ++ entered_last e r waiting (earlier ++ d ∷ ds) c)
-    (sym
+    ∙ ap (λ (xs : List Entrant). xs ++ entered_last e r waiting (earlier ++ d ∷ ds) c) (sym
     (more_append e r settings (earlier ++ d ∷ ds) c (entrants_left e r settings here ds new) there))
   where
     here : List Command
@@ -299,17 +392,14 @@ entrants_with e r before o c =
     entered_last e r (who_wait before) o.since c
 
 pub entrants_more : (e : Event) (r : ℕ) (before : Option (Settings × Table)) (o : Opened)
-    (c : Command)
-    → entrants_at e r before (plus_command c o) ≡ entrants_with e r before o c
+    (c : Command) → entrants_at e r before (plus_command c o) ≡ entrants_with e r before o c
 entrants_more e r before o c =
-    ap
-    (λ (xs : List Entrant).
+    ap (λ (xs : List Entrant).
     xs ++ entrants_after e r o.settings (who_wait before) [] (o.since ++ c ∷ []))
     (left_push e r o.settings [] o.since c (who_advance before))
     ∙ ap (λ (xs : List Entrant). left_more e r o.settings o.since c first ++ xs)
     (entrants_push e r o.settings (who_wait before) [] o.since c)
-    ∙ sym
-    (append_assoc (left_more e r o.settings o.since c first)
+    ∙ sym (append_assoc (left_more e r o.settings o.since c first)
     (left_more e r o.settings o.since c later) last)
     ∙ ap (λ (xs : List Entrant). xs ++ last)
     (sym (more_append e r o.settings o.since c first later))
@@ -325,24 +415,18 @@ entrants_more e r before o c =
 
 -- what one more command makes of a round that is open
 pub round_more : (e : Event) (r : ℕ) (before : Option (Settings × Table)) (o : Opened) (c : Command)
-    → round_at e r before (plus_command c o)
-    ≡ with_parts e (settings_by e r c (settings_now e r o))
+    → round_at e r before (plus_command c o) ≡ with_parts e (settings_by e r c (settings_now e r o))
     (unwrap_or (closing e r c) (is_ended e r o.since)) (entrants_with e r before o c)
 round_more e r before o c =
-    ap
-    (λ (s : Settings).
+    ap (λ (s : Settings).
     with_parts e s (is_ended e r (o.since ++ c ∷ [])) (entrants_at e r before (plus_command c o)))
     (settings_push e r o.settings o.since c)
-    ∙ ap
-    (λ (b : Bool).
+    ∙ ap (λ (b : Bool).
     with_parts e (settings_by e r c (settings_now e r o)) b
-    (entrants_at e r before (plus_command c o)))
-    (ended_push e r o.since c)
-    ∙ ap
-    (λ (xs : List Entrant).
+    (entrants_at e r before (plus_command c o))) (ended_push e r o.since c)
+    ∙ ap (λ (xs : List Entrant).
     with_parts e (settings_by e r c (settings_now e r o))
-    (unwrap_or (closing e r c) (is_ended e r o.since)) xs)
-    (entrants_more e r before o c)
+    (unwrap_or (closing e r c) (is_ended e r o.since)) xs) (entrants_more e r before o c)
 
 pub map_same : {X : Type 0} (f : X → X) → ((x : X) → f x ≡ x) → (xs : List X) → map f xs ≡ xs
 map_same f h [] = refl
@@ -370,8 +454,7 @@ KeepsValues e r c =
 
 -- who is left by a command that takes nobody out
 pub left_all : (e : Event) (r : ℕ) (settings : Settings) (earlier : List Command) (c : Command)
-    (xs : List Entrant)
-    → TakesNobodyOut e r c
+    (xs : List Entrant) → TakesNobodyOut e r c
     → left_more e r settings earlier c xs ≡ map (one_more e r settings earlier c) xs
 left_all e r settings earlier c xs nobody =
     ap (map (one_more e r settings earlier c))
@@ -384,31 +467,24 @@ pub same_entrants : (e : Event) (r : ℕ) (before : Option (Settings × Table)) 
     → TakesNobodyOut e r c → KeepsValues e r c
     → entrants_with e r before o c ≡ entrants_at e r before o
 same_entrants e r before o c nobody stay keeps =
-    rw (nobody (who_wait before) o.since)
-    (append-nil _
+    rw (nobody (who_wait before) o.since) (append-nil _
     ∙ left_all e r o.settings o.since c (entrants_at e r before o) stay
     ∙ map_same (one_more e r o.settings o.since c) (keeps o.settings o.since)
     (entrants_at e r before o))
 
 -- a command that sets nothing, and neither closes the round nor opens it again
 pub round_with : (e : Event) (r : ℕ) (before : Option (Settings × Table)) (c : Command) (o : Opened)
-    (es : List Entrant)
-    → ((s : Settings) → settings_by e r c s ≡ s) → closing e r c ≡ None
-    → entrants_with e r before o c ≡ es
-    → round_at e r before (plus_command c o)
+    (es : List Entrant) → ((s : Settings) → settings_by e r c s ≡ s) → closing e r c ≡ None
+    → entrants_with e r before o c ≡ es → round_at e r before (plus_command c o)
     ≡ with_parts e (settings_now e r o) (is_ended e r o.since) es
 round_with e r before c o es sets stays h =
     round_more e r before o c
-    ∙ ap
-    (λ (s : Settings).
+    ∙ ap (λ (s : Settings).
     with_parts e s (unwrap_or (closing e r c) (is_ended e r o.since))
-    (entrants_with e r before o c))
-    (sets (settings_now e r o))
-    ∙ ap
-    (λ (x : Option Bool).
+    (entrants_with e r before o c)) (sets (settings_now e r o))
+    ∙ ap (λ (x : Option Bool).
     with_parts e (settings_now e r o) (unwrap_or x (is_ended e r o.since))
-    (entrants_with e r before o c))
-    stays
+    (entrants_with e r before o c)) stays
     ∙ ap (λ (xs : List Entrant). with_parts e (settings_now e r o) (is_ended e r o.since) xs) h
 
 pub still : (e : Event) (r : ℕ) (before : Option (Settings × Table)) (c : Command) (o : Opened)
@@ -423,8 +499,7 @@ still e r before c o sets stays nobody stay keeps =
 -- a command that opens no round and takes none back makes this change of a round that is open, or
 -- none
 pub round_changed : (e : Event) (r : ℕ) (cs : List Command) (c : Command) (b : Bool)
-    (change : Settings × Table → Settings × Table)
-    → keeps_open e r c ≡ true
+    (change : Settings × Table → Settings × Table) → keeps_open e r c ≡ true
     → ((o : Opened) (before : Option (Settings × Table)) → opened e r [] cs ≡ Some o
     → round_at e r before (plus_command c o)
     ≡ cond b (change (round_at e r before o)) (round_at e r before o))
@@ -478,8 +553,7 @@ others_kept asked cs c e (suc r) alike keeps nobody stay same =
         → asked (option_map at (option_map (plus_command c) o)) ≡ asked (option_map at o)
     step None = refl
     step (Some o) =
-        alike (at (plus_command c o)) (at o)
-        (entrants_more e (suc r) (round_in e r o.before) o c
+        alike (at (plus_command c o)) (at o) (entrants_more e (suc r) (round_in e r o.before) o c
         ∙ same_entrants e (suc r) (round_in e r o.before) o c nobody stay same)
 
 -- what one more command makes of the scramble of an attempt of a round that is open
@@ -490,55 +564,21 @@ scramble_with e r k c o =
 -- one more command changes the scramble of an attempt by itself, where the round is open and stays
 -- so
 pub scramble_push : (e : Event) (r k : ℕ) (cs : List Command) (c : Command)
-    → is_cancelled e r c ≡ false
-    → scramble_of (cs ++ c ∷ []) e r k
+    → is_cancelled e r c ≡ false → scramble_of (cs ++ c ∷ []) e r k
     ≡ option_and_then (scramble_with e r k c) (opened e r [] cs)
 scramble_push e r k cs c stays =
-    ap (option_and_then (scramble_since e r k)) (opened_push e r cs c)
-    ∙ step (opened e r [] cs)
-  where
-    new : (y : Option Settings)
-        → option_and_then (scramble_since e r k) (option_map (just_opened cs) y) ≡ None
-    new None = refl
-    new (Some s) = refl
-
-    step : (x : Option Opened)
-        → option_and_then (scramble_since e r k) (opened_by e r cs x c)
-        ≡ option_and_then (scramble_with e r k c) x
-    step None = new (opening e r c)
-    step (Some o) =
-        ap
-        (λ (b : Bool).
-        option_and_then (scramble_since e r k) (cond b None (Some (plus_command c o))))
-        stays
-        ∙ standing_push (scrambling e r k) (rescrambling e r k) o.since c
+    asked_push (option_and_then (scramble_since e r k)) (option_and_then (scramble_with e r k c))
+    e r cs c stays refl (λ s. refl)
+    (λ o. standing_push (scrambling e r k) (rescrambling e r k) o.since c)
 
 -- a command that gives no scramble for an attempt leaves it as it is
 pub scramble_kept : (e : Event) (r k : ℕ) (cs : List Command) (c : Command)
     → is_cancelled e r c ≡ false → scrambling e r k c ≡ None → rescrambling e r k c ≡ None
     → scramble_of (cs ++ c ∷ []) e r k ≡ scramble_of cs e r k
 scramble_kept e r k cs c stays none same =
-    scramble_push e r k cs c stays
-    ∙ ap
-    (λ (a : Option (List Move)).
-    option_and_then
-    (λ (o : Opened). stands a (rescrambling e r k c) (scramble_since e r k o)) (opened e r [] cs))
-    none
-    ∙ ap
-    (λ (b : Option (List Move)).
-    option_and_then (λ (o : Opened). stands None b (scramble_since e r k o)) (opened e r [] cs))
-    same
-    ∙ step (opened e r [] cs)
-  where
-    kept : (o : Option (List Move)) → stands None None o ≡ o
-    kept None = refl
-    kept (Some x) = refl
-
-    step : (x : Option Opened)
-        → option_and_then (λ (o : Opened). stands None None (scramble_since e r k o)) x
-        ≡ option_and_then (scramble_since e r k) x
-    step None = refl
-    step (Some o) = kept (scramble_since e r k o)
+    asked_push (option_and_then (scramble_since e r k)) (option_and_then (scramble_since e r k)) e r
+    cs c stays refl (λ s. refl)
+    (λ o. standing_kept (scrambling e r k) (rescrambling e r k) o.since c none same)
 
 -- a command that sets the first scramble of an attempt
 pub scramble_new : (e : Event) (r k : ℕ) (cs : List Command) (c : Command) (moves : List Move)
@@ -550,10 +590,8 @@ scramble_new e zero k cs c moves stays sets there absent = absurd (false≢true 
 scramble_new e (suc r) k cs c moves stays sets there absent =
     scramble_push e (suc r) k cs c stays ∙ step (opened e (suc r) [] cs) there absent
   where
-    step : (x : Option Opened)
-        → is_some
-        (option_map (λ (o : Opened). round_at e (suc r) (round_in e r o.before) o) x)
-        ≡ true
+    step : (x : Option Opened) → is_some
+        (option_map (λ (o : Opened). round_at e (suc r) (round_in e r o.before) o) x) ≡ true
         → option_and_then (scramble_since e (suc r) k) x ≡ None
         → option_and_then (scramble_with e (suc r) k c) x ≡ Some moves
     step None h absent = absurd (false≢true h)
@@ -562,12 +600,10 @@ scramble_new e (suc r) k cs c moves stays sets there absent =
 -- a command that puts another scramble in the place of an attempt's
 pub scramble_again : (e : Event) (r k : ℕ) (cs : List Command) (c : Command) (moves : List Move)
     → is_cancelled e r c ≡ false → rescrambling e r k c ≡ Some moves
-    → is_some (scramble_of cs e r k) ≡ true
-    → scramble_of (cs ++ c ∷ []) e r k ≡ Some moves
+    → is_some (scramble_of cs e r k) ≡ true → scramble_of (cs ++ c ∷ []) e r k ≡ Some moves
 scramble_again e r k cs c moves stays sets there =
     scramble_push e r k cs c stays
-    ∙ ap
-    (λ (b : Option (List Move)).
+    ∙ ap (λ (b : Option (List Move)).
     option_and_then
     (λ (o : Opened). stands (scrambling e r k c) b (scramble_since e r k o)) (opened e r [] cs))
     sets
@@ -589,23 +625,6 @@ scramble_again e r k cs c moves stays sets there =
 pub scramble_cancel : (e f : Event) (r s k : ℕ) (cs : List Command)
     → scramble_of (cs ++ Cancel (round_id f s) ∷ []) e r k
     ≡ cond (same_event e f && r == s) None (scramble_of cs e r k)
-scramble_cancel e f r s k cs = step (same_event e f && r == s) refl
-  where
-    c : Command
-    c = Cancel (round_id f s)
-
-    gone : (x : Option Opened) → (same_event e f && r == s) ≡ true
-        → option_and_then (scramble_since e r k) (opened_by e r cs x c) ≡ None
-    gone None here = refl
-    gone (Some o) here =
-        ap
-        (λ (b : Bool).
-        option_and_then (scramble_since e r k) (cond b None (Some (plus_command c o))))
-        here
-
-    step : (b : Bool) → (same_event e f && r == s) ≡ b
-        → scramble_of (cs ++ c ∷ []) e r k ≡ cond b None (scramble_of cs e r k)
-    step true here =
-        ap (option_and_then (scramble_since e r k)) (opened_push e r cs c)
-        ∙ gone (opened e r [] cs) here
-    step false other = scramble_kept e r k cs c other refl refl
+scramble_cancel e f r s k cs =
+    asked_cancel (option_and_then (scramble_since e r k)) e f r s cs (λ o.
+    standing_kept (scrambling e r k) (rescrambling e r k) o.since (Cancel (round_id f s)) refl refl)

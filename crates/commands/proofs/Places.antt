@@ -3,9 +3,7 @@ use Rattle.std.proofs.Common.{◌≡◌, ℕ, ◌<◌, ◌≤◌, zero, suc, Boo
 use Rattle.std.proofs.Common.{[], ◌∷◌, length, find, position, slice_get, Option, Some, None}
 use Rattle.std.proofs.Common.{MatchOption, refl, sym, ap, ◌∙◌, arith}
 use Rattle.std.specs.List.{position_or_len}
-use Rattle.std.proofs.lemmas.Option.{slice_get_past}
-use Rattle.std.proofs.lemmas.List.Folds.{find_at}
-use Rattle.std.proofs.lemmas.Bool.Decides.{nat_tests}
+use Rattle.std.proofs.lemmas.{Option.slice_get_past, List.Folds.find_at, Bool.Decides.nat_tests}
 
 get_some : {X : Type 0} (xs : List X) (k : ℕ) → k < length xs → (x : X) × (slice_get xs k ≡ Some x)
 get_some [] k h = absurd (omega arith)
@@ -17,7 +15,7 @@ found_here : {X : Type 0} (p : X → Bool) (y x : X) (rest : Option X) (b : Bool
 found_here p y x rest true is later f = let same : y ≡ x = cc in ap p (sym same) ∙ is
 found_here p y x rest false is later f = later f
 
-find_passes : {X : Type 0} (p : X → Bool) (xs : List X) (x : X) → find p xs ≡ Some x → p x ≡ true
+pub find_passes : {X : Type 0} (p : X → Bool) (xs : List X) (x : X) → find p xs ≡ Some x → p x ≡ true
 find_passes p [] x e = cc
 find_passes p (y ∷ ys) x e = found_here p y x (find p ys) (p y) refl (find_passes p ys x) e
 

@@ -3,11 +3,9 @@ use Rattle.std.proofs.Common.{◌≡◌, ℕ, zero, suc, ◌<◌, true, List, []
 use Rattle.std.proofs.Common.{Option, Some, None, is_some, arith}
 use Rattle.std.specs.List.{list_all}
 use Rattle.std.proofs.lemmas.Bool.{false≢true}
-use Rattle.texts.specs.declared.command.CardEntry.{CardEntry}
+use Rattle.texts.specs.declared.command.{CardEntry.CardEntry, Entered.Entered}
 use Rattle.texts.specs.declared.command.Command.TheVariants.{Card, Fix}
-use Rattle.texts.specs.declared.command.Entered.{Entered}
-use Rattle.texts.specs.Spelling.{IsFit}
-use Rattle.texts.specs.Table.{rows}
+use Rattle.texts.specs.{Spelling.IsFit, Table.rows}
 use Rattle.commands.specs.model.Cards.{IsReadCard}
 use Rattle.commands.proofs.Lookups.{some≢none}
 

@@ -2,20 +2,16 @@
 use Rattle.std.proofs.Common.{◌≡◌, ℕ, Bool, true, false, not, ◌==◌, ◌&&◌, ◌||◌, cond, is_some, List}
 use Rattle.std.proofs.Common.{[], ◌∷◌, ◌++◌, length, Option, Some, None, option_map, unwrap_or}
 use Rattle.std.proofs.Common.{refl, ap, ◌∙◌, sym, subst, eqb-true, eq-eqb}
-use Rattle.std.specs.Prelude.{bytes_eq, nat_eq}
-use Rattle.std.specs.List.{list_any}
+use Rattle.std.specs.{Prelude.bytes_eq, Prelude.nat_eq, List.list_any, HashMap.get}
 use Rattle.std.specs.Option.{option_or, option_and_then, option_map_or}
-use Rattle.std.specs.HashMap.{get}
 use Rattle.std.proofs.lemmas.Bool.{false≢true}
-use Rattle.texts.specs.declared.command.Command.{Command}
-use Rattle.texts.specs.declared.command.Command.TheVariants.{Register, Rename}
+use Rattle.texts.specs.declared.command.Command.{Command, TheVariants.Register, TheVariants.Rename}
 use Rattle.commands.specs.declared.competitors.Competitors.{Competitors}
-use Rattle.commands.specs.Accepted.{name_given, renaming, last_of, name_of, is_called}
-use Rattle.commands.specs.Accepted.{names_other, is_taken, is_registered}
+use Rattle.commands.specs.Accepted.{name_given, renaming, last_of, name_of, is_called, names_other}
+use Rattle.commands.specs.Accepted.{is_taken, is_registered}
 use Rattle.commands.specs.model.Kept.{naming, name_at, holder, AreCompetitors, Notes}
-use Rattle.commands.proofs.Lookups.{none_from, some≢none, stands, standing_push}
-use Rattle.commands.proofs.Lookups.{standing_kept, at_end, found_push}
-use Rattle.commands.proofs.Names.{same_name, own_name}
+use Rattle.commands.proofs.Lookups.{none_from, some≢none, stands, standing_push, standing_kept}
+use Rattle.commands.proofs.{Lookups.at_end, Lookups.found_push, Names.same_name, Names.own_name}
 
 -- Names that are taken
 
@@ -34,13 +30,9 @@ taken_in cs (Register m given ∷ ds) n q name other called some =
     or_later true h = refl
     or_later false h = h
 
-    step : (b : Bool) → (m == q) ≡ b
-        → is_some
-        (option_or
+    step : (b : Bool) → (m == q) ≡ b → is_some (option_or
         (option_map (unwrap_or (last_of (renaming q) ds)) (cond b (Some given) None))
-        (name_of ds q))
-        ≡ true
-        → (is_some (name_of ds q) ≡ true → rest ≡ true)
+        (name_of ds q)) ≡ true → (is_some (name_of ds q) ≡ true → rest ≡ true)
         → ((not (m == n) && is_called cs m name) || rest) ≡ true
     step true same h later =
         let number : m ≡ q = eqb-true m q same in
@@ -97,8 +89,7 @@ pub taken_is : (cs : List Command) (n : ℕ) (name : List ℕ) (kept : Competito
     → AreCompetitors cs kept → taken_from cs n name (holder kept name) ≡ is_taken cs n name
 taken_is cs n name kept are = by (is_taken cs n name) refl (holder kept name) refl
   where
-    held : IsOther cs n name → (o : Option ℕ) → holder kept name ≡ o
-        → taken_from cs n name o ≡ true
+    held : IsOther cs n name → (o : Option ℕ) → holder kept name ≡ o → taken_from cs n name o ≡ true
     held o None is = absurd (some≢none o.number (sym (are.names o.number name o.called) ∙ is))
     held o (Some m) is =
         let both : Some o.number ≡ Some m = sym (are.names o.number name o.called) ∙ is in
@@ -134,8 +125,7 @@ AreCompetitors-other cs c kept unnamed same are = record {
       ∙ sym (standing_kept (name_given n) (renaming n) cs c (unnamed n) (same n));
   names =
       λ n name called.
-      are.names n name
-      (ap (λ (o : Option (List ℕ)). option_map_or (bytes_eq name) o false)
+      are.names n name (ap (λ (o : Option (List ℕ)). option_map_or (bytes_eq name) o false)
       (sym (standing_kept (name_given n) (renaming n) cs c (unnamed n) (same n)))
       ∙ called);
 }
@@ -146,8 +136,7 @@ pub AreCompetitors-noted : (cs : List Command) (c : Command) (n : ℕ) (name : L
     → AreCompetitors cs old → is_taken cs n name ≡ false → Notes cs n name old new
     → naming n c ≡ Some name → name_of (cs ++ c ∷ []) n ≡ Some name
     → ((q : ℕ) → (n == q) ≡ false → name_given q c ≡ None)
-    → ((q : ℕ) → (n == q) ≡ false → renaming q c ≡ None)
-    → AreCompetitors (cs ++ c ∷ []) new
+    → ((q : ℕ) → (n == q) ≡ false → renaming q c ≡ None) → AreCompetitors (cs ++ c ∷ []) new
 AreCompetitors-noted cs c n name old new are free notes gives now others same = record {
   places = λ q. places q (n == q) refl;
   names = λ q other called. names q other called (n == q) refl;
@@ -162,8 +151,7 @@ AreCompetitors-noted cs c n name old new are free notes gives now others same = 
     places q true h =
         let number : n ≡ q = eqb-true n q h in
         let here : get nat_eq new.places q ≡ Some (length cs) = notes.places q ∙ rw h refl in
-        rw here
-        (ap (option_and_then (naming q)) (at_end cs c)
+        rw here (ap (option_and_then (naming q)) (at_end cs c)
         ∙ subst (λ (k : ℕ). naming k c ≡ Some name) number gives
         ∙ sym (subst (λ (k : ℕ). name_of (cs ++ c ∷ []) k ≡ Some name) number now))
     places q false h =
@@ -178,8 +166,7 @@ AreCompetitors-noted cs c n name old new are free notes gives now others same = 
     names q other called true h =
         let number : n ≡ q = eqb-true n q h in
         let own : bytes_eq other name ≡ true =
-        sym
-        (ap (λ (o : Option (List ℕ)). option_map_or (bytes_eq other) o false)
+        sym (ap (λ (o : Option (List ℕ)). option_map_or (bytes_eq other) o false)
         (subst (λ (k : ℕ). name_of (cs ++ c ∷ []) k ≡ Some name) number now))
         ∙ called in
         let equal : bytes_eq name other ≡ true =
@@ -221,8 +208,7 @@ registration cs n name old new are nobody free notes =
     AreCompetitors-noted cs (Register n name) n name old new are free notes (rw here refl)
     (standing_push (name_given n) (renaming n) cs (Register n name)
     ∙ ap (stands (name_given n (Register n name)) None) (none_from (name_of cs n) nobody)
-    ∙ rw here refl)
-    (λ q h. rw h refl) (λ q h. refl)
+    ∙ rw here refl) (λ q h. rw h refl) (λ q h. refl)
 
 -- another name that is noted
 pub another_name : (cs : List Command) (n : ℕ) (name : List ℕ) (old new : Competitors)
@@ -233,8 +219,7 @@ another_name cs n name old new are known free notes =
     AreCompetitors-noted cs (Rename n name) n name old new are free notes (rw here refl)
     (standing_push (name_given n) (renaming n) cs (Rename n name)
     ∙ ap (λ (b : Bool). stands None (cond b (Some name) None) (name_of cs n)) here
-    ∙ step (name_of cs n) known)
-    (λ q h. refl) (λ q h. rw h refl)
+    ∙ step (name_of cs n) known) (λ q h. refl) (λ q h. rw h refl)
   where
     step : (o : Option (List ℕ)) → is_some o ≡ true → stands None (Some name) o ≡ Some name
     step None h = absurd (false≢true h)
@@ -250,8 +235,7 @@ taken_by_holder cs n name kept o are at =
 -- where only the holder of a name that no other number has is noted
 pub held_alike : (cs : List Command) (n : ℕ) (name : List ℕ) (old new : Competitors)
     → AreCompetitors cs old → is_taken cs n name ≡ false
-    → ((q : ℕ) → get nat_eq new.places q ≡ get nat_eq old.places q)
-    → ((other : List ℕ)
+    → ((q : ℕ) → get nat_eq new.places q ≡ get nat_eq old.places q) → ((other : List ℕ)
     → holder new other ≡ cond (bytes_eq name other) (Some n) (holder old other))
     → AreCompetitors cs new
 held_alike cs n name old new are free places names = record {
@@ -267,11 +251,9 @@ held_alike cs n name old new are free places names = record {
         by false is = absurd (false≢true (sym free ∙ is_taken_by cs n q name is called))
 
     step : (q : ℕ) (other : List ℕ) → is_called cs q other ≡ true
-        → (b : Bool) → bytes_eq name other ≡ b
-        → cond b (Some n) (holder old other) ≡ Some q
+        → (b : Bool) → bytes_eq name other ≡ b → cond b (Some n) (holder old other) ≡ Some q
     step q other called true is =
-        ap Some
-        (own q
+        ap Some (own q
         (subst (λ (x : List ℕ). is_called cs q x ≡ true) (sym (same_name name other is)) called))
     step q other called false is = are.names q other called
 

@@ -1,8 +1,7 @@
 -- The rounds rule, by numbers of competitors that are alike.
 use Rattle.std.proofs.Common.{◌≡◌, ℕ, ◌+◌, ◌-◌, ◌==◌, ◌&&◌, Bool, true, false, not, cond, List, []}
 use Rattle.std.proofs.Common.{◌∷◌, refl, sym, ap, ◌∙◌, eqb-true}
-use Rattle.std.specs.Prelude.{nat_lt}
-use Rattle.std.specs.List.{list_any, range_with_len}
+use Rattle.std.specs.{Prelude.nat_lt, List.list_any, List.range_with_len}
 use Rattle.formats.specs.declared.advance.Advance.{Advance}
 use Rattle.advancement.specs.Advancing.{later_rounds}
 use Rattle.commands.specs.Accepted.{is_final, has_too_few, breaks_rounds_rule, but_for}
@@ -16,8 +15,7 @@ any_alike p q h (n ∷ ns) = rw (h n, any_alike p q h ns) refl
 pub breaks_alike : (ms ns : ℕ → ℕ) (r : ℕ) (advance : Advance) → ((j : ℕ) → ms j ≡ ns j)
     → breaks_rounds_rule ms r advance ≡ breaks_rounds_rule ns r advance
 breaks_alike ms ns r advance alike =
-    ap (λ (b : Bool). not (is_final advance) && b)
-    (any_alike (has_too_few ms r) (has_too_few ns r)
+    ap (λ (b : Bool). not (is_final advance) && b) (any_alike (has_too_few ms r) (has_too_few ns r)
     (λ j. ap (λ (n : ℕ). nat_lt (later_rounds n) (r + 1 - j)) (alike j)) (range_with_len 1 r))
 
 -- the numbers with that of one round as it is

@@ -1,74 +1,53 @@
 -- What every list of accepted commands keeps to: names and numbers in their ranges, and at most 999
 -- entrants in a round.
-use Rattle.std.proofs.Common.{◌≡◌, ℕ, zero, suc, ◌+◌, ◌-◌, ◌*◌, ◌/◌, ◌<◌, ◌≤◌, Bool, true, false}
-use Rattle.std.proofs.Common.{◌&&◌, ◌==◌, not, cond, nat_le, List, [], ◌∷◌, ◌++◌, length, take, set}
-use Rattle.std.proofs.Common.{map, filter, find, flat_map, fold, count_by, slice_get, Option, Some}
-use Rattle.std.proofs.Common.{None, IfSome, option_map, option_to_list, Result, Ok, Err, IfOk}
-use Rattle.std.proofs.Common.{refl, sym, ap, ◌∙◌, subst, arith, append-nil, length-append, eqb-true}
+use Rattle.std.proofs.Common.{◌≡◌, ℕ, zero, suc, ◌+◌, ◌-◌, ◌<◌, ◌≤◌, Bool, true, false, ◌&&◌, ◌==◌}
+use Rattle.std.proofs.Common.{not, cond, nat_le, List, [], ◌∷◌, ◌++◌, length, take, set, map}
+use Rattle.std.proofs.Common.{filter, find, flat_map, fold, count_by, slice_get, Option, Some, None}
+use Rattle.std.proofs.Common.{IfSome, option_map, option_to_list, Result, Ok, Err, IfOk, refl, sym}
+use Rattle.std.proofs.Common.{ap, ◌∙◌, subst, arith, append-nil, length-append, eqb-true}
 use Rattle.std.specs.List.{range_with_len, AllByRecursion, list_any}
-use Rattle.std.specs.Option.{option_and_then}
-use Rattle.std.proofs.lemmas.Bool.Decides.{nat_tests}
-use Rattle.std.proofs.lemmas.List.{length-map}
-use Rattle.std.proofs.lemmas.List.Elements.{recursion_from_All}
+use Rattle.std.{specs.Option.option_and_then, proofs.lemmas.Bool.Decides.nat_tests}
+use Rattle.std.proofs.lemmas.List.{length-map, Elements.recursion_from_All}
 use Rattle.std.proofs.lemmas.List.Sums.{length-filter, count_by-le-length}
-use Rattle.std.proofs.Math.Nat.{div-mul-le_self}
 use Rattle.cube.specs.declared.moves.Move.{Move}
-use Rattle.cube.specs.notation.Notation.{is_turn, turn_count}
-use Rattle.attempts.specs.declared.Fm.TheVariants as fm
-use Rattle.fmc_check.specs.Fewest.{is_solution, result_of}
-use Rattle.attempts.specs.declared.Value.{Value}
-use Rattle.attempts.specs.declared.Value.TheVariants as value
-use Rattle.attempts.specs.Attempts.{rounded, reaches, solution_value, multi_number}
-use Rattle.attempts.specs.Attempts.{is_multi_finished, IsInRangeOf}
-use Rattle.attempts.specs.declared.Unit.TheVariants as measure
-use Rattle.formats.specs.declared.events.Event.{Event}
-use Rattle.formats.specs.Events.{same_event}
+use Rattle.attempts.specs.declared.{Value.Value, Unit.Unit as Measure}
+use Rattle.attempts.specs.Attempts.{IsInRangeOf}
+use Rattle.formats.specs.{declared.events.Event.Event, Events.same_event}
 use Rattle.formats.proofs.SameEvent.{same_event-equal}
 use Rattle.rounds.specs.Tables.{Entrant, Table, has_number, enter_fault, replaced, without_last}
 use Rattle.rounds.specs.Tables.{number_of_entrant, place, standings, entrant, leave_fault}
 use Rattle.rounds.specs.Tables.{withdraw_fault}
-use Rattle.rounds.specs.declared.fault.WithdrawFault.TheVariants as withdraw
-use Rattle.rounds.specs.declared.fault.EnterFault.TheVariants as enter
-use Rattle.advancement.specs.Advancing.{goes_on}
-use Rattle.advancement.specs.Waiting.{stays_out}
-use Rattle.texts.specs.declared.answer.Code.{Code}
-use Rattle.texts.specs.declared.answer.Code.TheVariants as code
-use Rattle.texts.specs.declared.command.Command.{Command}
+use Rattle.advancement.specs.{Advancing.goes_on, Waiting.stays_out}
+use Rattle.texts.specs.declared.{answer.Code.Code, reading.CommandFault.CommandFault}
+use Rattle.texts.specs.declared.command.{Command.Command, CardEntry.CardEntry, Entered.Entered}
 use Rattle.texts.specs.declared.command.Command.TheVariants.{Register, Open, Enter, Attempt}
 use Rattle.texts.specs.declared.command.Command.TheVariants.{Correct, Strike, SetAdvance, Rename}
 use Rattle.texts.specs.declared.command.Command.TheVariants.{SetRound, Withdraw, Card, Fix}
-use Rattle.texts.specs.declared.command.CardEntry.{CardEntry}
-use Rattle.texts.specs.declared.command.Entered.{Entered}
-use Rattle.texts.specs.declared.command.RemarkedCommand.{RemarkedCommand}
-use Rattle.texts.specs.declared.command.Entered.TheVariants as entered
-use Rattle.texts.specs.declared.command.Settings.{Settings}
-use Rattle.texts.specs.declared.reading.CommandFault.{CommandFault}
+use Rattle.texts.specs.declared.command.{RemarkedCommand.RemarkedCommand, Settings.Settings}
 use Rattle.texts.specs.Spelling.{IsFit, IsFitSettings, IsEntered}
-use Rattle.texts.specs.Reading.{command_of}
-use Rattle.texts.specs.Editions.{is_spelled_in}
-use Rattle.texts.specs.Table.{rows}
-use Rattle.commands.specs.Scrambles.{scramble_in}
-use Rattle.commands.specs.Accepted.{Opened, edition_in, enter_code, enter_refusal, entering}
-use Rattle.commands.specs.Accepted.{entrant_after, entrants_left, is_cancelled, is_of}
-use Rattle.commands.specs.Accepted.{is_registered, is_withdrawal, just_opened, name_given, name_of}
-use Rattle.commands.specs.Accepted.{one_value, opened, opened_by, opening, plus_command, refusal}
-use Rattle.commands.specs.Accepted.{renaming, round_at, round_in, round_of, settings_after}
-use Rattle.commands.specs.Accepted.{settings_by, settings_now, settled, stays, value_counted}
-use Rattle.commands.specs.Accepted.{value_entered, values_now, who_advance, who_wait}
-use Rattle.commands.specs.Accepted.{withdraw_code, withdraw_refusal}
-use Rattle.commands.specs.model.Cards.{IsReadCard}
-use Rattle.commands.specs.model.Kept.{newcomer}
+use Rattle.texts.specs.{Reading.command_of, Editions.is_spelled_in, Table.rows}
+use Rattle.commands.specs.{Scrambles.scramble_in, model.Cards.IsReadCard, model.Kept.newcomer}
+use Rattle.commands.specs.Accepted.{Opened, name_of, opened, opening, refusal, settled, is_wrong}
+use Rattle.commands.specs.Accepted.{edition_in, just_opened, settings_by, settings_now, who_advance}
+use Rattle.commands.specs.Accepted.{enter_code, name_given, one_value, opened_by, stays, values_now}
+use Rattle.commands.specs.Accepted.{enter_refusal, entrant_after, settings_after, withdraw_refusal}
+use Rattle.commands.specs.Accepted.{entering, renaming, round_at, round_in, round_of, who_wait}
+use Rattle.commands.specs.Accepted.{entrants_left, is_registered, is_withdrawal, value_counted}
+use Rattle.commands.specs.Accepted.{is_cancelled, is_of, plus_command, value_entered, withdraw_code}
 use Rattle.commands.specs.History.{History, nothing, is_seen, added_read, spelled_refusal}
 use Rattle.commands.specs.History.{read_refusal, after, history}
-use Rattle.commands.proofs.CardSteps.{values_hold}
-use Rattle.commands.proofs.Entries.{accepted_new, after_seen}
-use Rattle.commands.proofs.Known.{read_fit}
+use Rattle.commands.proofs.CardSteps.{values_hold, settled_in_range}
+use Rattle.commands.proofs.{Entries.accepted_new, Entries.after_seen, ReadCards.fix_read}
+use Rattle.commands.proofs.{Known.read_fit, OneMore.round_more, ReadCards.card_read}
 use Rattle.commands.proofs.Lookups.{some≢none, stands, standing_push}
 use Rattle.commands.proofs.OneMore.{entered_last, is_left_by, left_more, one_more, opened_push}
-use Rattle.commands.proofs.OneMore.{round_more}
-use Rattle.commands.proofs.ReadCards.{card_read, fix_read}
-use Rattle.texts.proofs.NameRoom.{name_room, new_name_room}
-use Rattle.texts.proofs.Words.{spelled_only}
+use Rattle.texts.proofs.{NameRoom.name_room, NameRoom.new_name_room, Words.spelled_only}
+use Rattle.attempts.specs.declared.Value.TheVariants as value
+use Rattle.attempts.specs.declared.Unit.TheVariants as measure
+use Rattle.rounds.specs.declared.fault.WithdrawFault.TheVariants as withdraw
+use Rattle.rounds.specs.declared.fault.EnterFault.TheVariants as enter
+use Rattle.texts.specs.declared.answer.Code.TheVariants as code
+use Rattle.texts.specs.declared.command.Entered.TheVariants as entered
 
 -- an entrant's number and values are in their ranges
 pub record IsSmallEntrant (e : Entrant) : Type 0 where
@@ -135,8 +114,7 @@ all_filter {X} P p (x ∷ xs) h = step (p x) (all_filter P p xs h.1)
     step false rest = rest
 
 pub all_flat_map : {X Y : Type 0} (P : Y → Type 0) (f : X → List Y)
-    → ((x : X) → AllByRecursion P (f x))
-    → (xs : List X) → AllByRecursion P (flat_map f xs)
+    → ((x : X) → AllByRecursion P (f x)) → (xs : List X) → AllByRecursion P (flat_map f xs)
 all_flat_map P f each [] = tt
 all_flat_map P f each (x ∷ xs) =
     all_append P (f x) (flat_map f xs) (each x) (all_flat_map P f each xs)
@@ -172,8 +150,7 @@ from_place f a (e ∷ es) =
     step false false true is_p is_q is_r h = omega arith
     step false false false is_p is_q is_r h = h
 
-by_places : (f : Entrant → ℕ) (es : List Entrant) (a n : ℕ)
-    → length
+by_places : (f : Entrant → ℕ) (es : List Entrant) (a n : ℕ) → length
     (flat_map (λ p. map number_of_entrant (filter (λ e. f e == p) es)) (range_with_len a n)) ≤
     length (filter (λ e. nat_le a (f e)) es)
 by_places f es a zero = omega arith
@@ -203,8 +180,7 @@ standings_small : (t : Table) → AllByRecursion IsSmallEntrant t.entrants
     → AllByRecursion (λ n. n ≤ 9999) (standings t)
 standings_small t h =
     all_flat_map (λ n. n ≤ 9999)
-    (λ p. map number_of_entrant (filter (λ e. place t e == p) t.entrants))
-    (λ p.
+    (λ p. map number_of_entrant (filter (λ e. place t e == p) t.entrants)) (λ p.
     all_map IsSmallEntrant (λ n. n ≤ 9999) number_of_entrant (λ e is. is.number)
     (filter (λ e. place t e == p) t.entrants)
     (all_filter IsSmallEntrant (λ e. place t e == p) t.entrants h))
@@ -212,48 +188,29 @@ standings_small t h =
 
 -- Values
 
-rounded_small : (n : ℕ) → n ≤ 1001799 → rounded n ≤ 2000000
-rounded_small n small = step (nat_le n 60000)
-  where
-    step : (b : Bool) → cond b n ((n + 50) / 100 * 100) ≤ 2000000
-    step true = omega arith
-    step false = let less = div-mul-le_self (n + 50) 100 in omega (arith, less, small)
+-- a value in the range of any unit is in that of multi-blind
+widened : (unit : Measure) (v : Value) → IsInRangeOf unit v → IsInRangeOf measure.Multi v
+widened measure.Time (value.Number n) low = omega (arith, low)
+widened measure.Moves (value.Number n) low = omega (arith, low)
+widened measure.Multi (value.Number n) low = low
+widened unit value.Dnf low = tt
+widened unit value.Dns low = tt
+
+settled_as : (unit : Measure) (settings : Settings) (scramble : Option (List Move)) (x : Entered)
+    → IsEntered x → is_wrong unit x ≡ false
+    → IsInRangeOf measure.Multi (settled settings scramble x)
+settled_as unit settings scramble x is right =
+    widened unit (settled settings scramble x) (settled_in_range unit settings scramble x is right)
 
 -- what was entered settles to a value in its range
 settled_small : (settings : Settings) (scramble : Option (List Move)) (x : Entered) → IsEntered x
     → IsInRangeOf measure.Multi (settled settings scramble x)
-unfolding result_of
 settled_small settings scramble (entered.Time time penalties) is =
-    step (reaches settings.limit time)
-  where
-    step : (b : Bool)
-        → IsInRangeOf measure.Multi
-        (cond b value.Dnf (value.Number (rounded (time + 200 * penalties))))
-    step true = tt
-    step false =
-        let small = rounded_small (time + 200 * penalties) (omega (arith, is.0.1, is.1.1)) in
-        omega (arith, small)
-settled_small settings None (entered.Solution solution) is = tt
-settled_small settings (Some scramble) (entered.Solution solution) is =
-    step (is_solution scramble solution)
-  where
-    step : (b : Bool)
-        → IsInRangeOf measure.Multi
-        (solution_value (cond b (fm.Moves (turn_count solution)) fm.Dnf))
-    step true =
-        let less = count_by-le-length (λ (move : Move). is_turn move.kind) solution in
-        omega (arith, less, is.1)
-    step false = tt
+    settled_as measure.Time settings scramble (entered.Time time penalties) is refl
+settled_small settings scramble (entered.Solution solution) is =
+    settled_as measure.Moves settings scramble (entered.Solution solution) is refl
 settled_small settings scramble (entered.Multi solved attempted seconds) is =
-    step (is_multi_finished solved attempted) refl
-  where
-    step : (b : Bool) → is_multi_finished solved attempted ≡ b
-        → IsInRangeOf measure.Multi
-        (cond b (value.Number (multi_number solved attempted seconds)) value.Dnf)
-    step true finished =
-        let few : attempted - solved ≤ solved = grind (arith, nat_tests) in
-        omega (arith, few, is.0.1, is.1.1, is.2.1)
-    step false finished = tt
+    settled_as measure.Multi settings scramble (entered.Multi solved attempted seconds) is refl
 settled_small settings scramble entered.Dnf is = tt
 settled_small settings scramble entered.Dns is = tt
 
@@ -276,8 +233,7 @@ card_small b e r settings earlier card vs read h =
     (values_hold (IsInRangeOf measure.Multi) IsEntered (value_counted e r settings earlier)
     (λ k x fits.
     settled_small (settings_after e r settings earlier) (scramble_in e r k earlier) x fits)
-    1 card.now vs (recursion_from_All (λ o. IfSome o IsEntered) card.now read.entered) h)
-    h
+    1 card.now vs (recursion_from_All (λ o. IfSome o IsEntered) card.now read.entered) h) h
 
 -- what a command makes of the values of an entrant
 values_small : (c : Command) → IsFit c → (e : Event) (r n : ℕ) (settings : Settings)
@@ -299,8 +255,7 @@ values_small (Correct entry) fits e r n settings earlier vs h =
     (all_set (IsInRangeOf measure.Multi) vs (entry.attempt - 1)
     (value_entered e r settings earlier entry) h
     (settled_small (settings_after e r settings earlier) (scramble_in e r entry.attempt earlier)
-    entry.outcome fits.0.1.1.1.1.0))
-    h
+    entry.outcome fits.0.1.1.1.1.0)) h
 values_small (Strike id m) fits e r n settings earlier vs h =
     changed_or_not (is_of e r id && m == n) (without_last vs) vs
     (all_take (IsInRangeOf measure.Multi) (length vs - 1) vs h) h
@@ -323,8 +278,7 @@ settings_small (SetAdvance id advance) fits e r settings h = step (is_of e r id)
     step false = h
 settings_small (SetRound id format cutoff limit) fits e r settings h = step (is_of e r id)
   where
-    step : (b : Bool)
-        → IsFitSettings
+    step : (b : Bool) → IsFitSettings
         (cond b (record settings { format = format; cutoff = cutoff; limit = limit }) settings)
     step true = (fits.0.1.1.1.0, fits.0.1.1.1.1.0, h.2)
     step false = h
@@ -352,18 +306,15 @@ left_small : (c : Command) → IsFit c → (e : Event) (r : ℕ) (settings : Set
     (earlier : List Command) (es : List Entrant) → AllByRecursion IsSmallEntrant es
     → AllByRecursion IsSmallEntrant (left_more e r settings earlier c es)
 left_small c fits e r settings earlier es h =
-    all_map IsSmallEntrant IsSmallEntrant (one_more e r settings earlier c)
-    (λ x is.
+    all_map IsSmallEntrant IsSmallEntrant (one_more e r settings earlier c) (λ x is.
     record {
       number = is.number;
       values = values_small c fits e r x.number settings earlier x.values is.values;
-    })
-    (filter (is_left_by e r c) es) (all_filter IsSmallEntrant (is_left_by e r c) es h)
+    }) (filter (is_left_by e r c) es) (all_filter IsSmallEntrant (is_left_by e r c) es h)
 
 -- they are no more than before
 left_few : (c : Command) (e : Event) (r : ℕ) (settings : Settings) (earlier : List Command)
-    (es : List Entrant)
-    → length (left_more e r settings earlier c es) ≤ length es
+    (es : List Entrant) → length (left_more e r settings earlier c es) ≤ length es
 left_few c e r settings earlier es =
     omega (
       arith,
@@ -445,11 +396,9 @@ has_room n t h =
     step t.is_closed (list_any (has_number n) t.entrants) (nat_le 999 (length t.entrants)) h in
     grind (arith, nat_tests)
   where
-    step : (a b c : Bool)
-        → option_and_then enter_code
+    step : (a b c : Bool) → option_and_then enter_code
         (cond a (Some enter.Closed) (cond b (Some enter.Already) (cond c (Some enter.Full) None)))
-        ≡ None
-        → c ≡ false
+        ≡ None → c ≡ false
     step true b c h = absurd (some≢none code.Closed h)
     step false true c h = absurd (some≢none code.Already h)
     step false false true h = absurd (some≢none code.Full h)
@@ -478,8 +427,7 @@ has_place cs (Enter f n) allowed e r x is few settings waiting earlier m enters 
         ap (λ (g : Event). round_of cs g 1) (sym event)
         ∙ ap (λ (s : ℕ). round_of cs e s) (sym round) ∙ is in
         let room =
-        has_room n x.1
-        (ap (enter_refusal n) (sym there)
+        has_room n x.1 (ap (enter_refusal n) (sym there)
         ∙ known_then (is_registered cs n) (enter_refusal n (round_of cs f 1)) allowed) in
         omega (arith, room, left_few (Enter f n) e r settings earlier x.1.entrants)
     step false other h = absurd (some≢none m (sym h))
@@ -501,16 +449,13 @@ has_place cs (Withdraw id n) allowed e r x is few settings waiting earlier m ent
         ap (λ (f : Event). round_of cs f id.round) (sym event)
         ∙ ap (λ (s : ℕ). round_of cs e s) (sym round) ∙ is in
         let found =
-        leaves n x.1
-        (ap (withdraw_refusal n) (sym there)
+        leaves n x.1 (ap (withdraw_refusal n) (sym there)
         ∙ known_then (is_registered cs n) (withdraw_refusal n (round_of cs id.event id.round))
         allowed) in
         let fewer : length (filter (is_left_by e r c) x.1.entrants) < length x.1.entrants =
-        subst
-        (λ (b : Bool).
+        subst (λ (b : Bool).
         length (filter (λ (y : Entrant). not (b && n == y.number)) x.1.entrants)
-        < length x.1.entrants)
-        (sym here) (found_left n found.0 x.1.entrants found.1) in
+        < length x.1.entrants) (sym here) (found_left n found.0 x.1.entrants found.1) in
         omega (
           arith,
           length-map (filter (is_left_by e r c) x.1.entrants) (one_more e r settings earlier c),
@@ -599,10 +544,8 @@ rounds_more cs c fits allowed h e (suc r) =
               let few = advance_few r (round_in e r cs) (h.rounds e r) in
               omega (arith, few, newcomers_few e (suc r) settings ns, length-append es []);
           entrants =
-              all_append IsSmallEntrant es []
-              (newcomers_small e (suc r) settings ns
-              (advance_numbers r (round_in e r cs) (h.rounds e r)))
-              tt;
+              all_append IsSmallEntrant es [] (newcomers_small e (suc r) settings ns
+              (advance_numbers r (round_in e r cs) (h.rounds e r))) tt;
         }
 
     -- one that is open
@@ -704,8 +647,7 @@ small_more : (cs : List Command) (c : Command) → IsFit c → refusal cs c ≡ 
 small_more cs c fits allowed h = record {
   names =
       λ n.
-      subst (λ o. IfSome o IsSmallName)
-      (sym (standing_push (name_given n) (renaming n) cs c))
+      subst (λ o. IfSome o IsSmallName) (sym (standing_push (name_given n) (renaming n) cs c))
       (stands_small (name_given n c) (renaming n c) (name_of cs n) (naming_small c fits n).0
       (naming_small c fits n).1 (h.names n));
   rounds = rounds_more cs c fits allowed h;
@@ -749,8 +691,7 @@ small_after h id text small = step (is_seen h id) refl
         subst IsSmall (sym (accepted_new h id text new))
         (small_read h.accepted (command_of text) (read_fits text (command_of text) refl) small)
 
-small_fold : (h : History) (entries : List (ℕ × List ℕ)) → IsSmall h.accepted
-    → IsSmall
+small_fold : (h : History) (entries : List (ℕ × List ℕ)) → IsSmall h.accepted → IsSmall
     (fold (λ (x : History) (entry : ℕ × List ℕ). after x entry.0 entry.1) h entries).accepted
 small_fold h [] small = small
 small_fold h (entry ∷ entries) small =

@@ -1,20 +1,14 @@
 -- For which attempts a solution was entered last, after one more command.
-use Rattle.std.proofs.Common.{◌≡◌, ℕ, zero, suc, Bool, true, false, ◌&&◌, ◌==◌, cond, unwrap_or}
-use Rattle.std.proofs.Common.{List}
-use Rattle.std.proofs.Common.{[], ◌∷◌, ◌++◌, Option, Some, None, option_map, is_some, refl, ap, ◌∙◌}
-use Rattle.std.specs.Option.{option_or, option_map_or}
+use Rattle.std.proofs.Common.{◌≡◌, zero, suc, Bool, true, false, ◌&&◌, ◌==◌, cond, ap, ◌∙◌}
+use Rattle.std.proofs.Common.{ℕ, List, [], ◌∷◌, ◌++◌, Option, Some, None, option_map, is_some, refl}
+use Rattle.std.{proofs.Common.unwrap_or, specs.Option.option_or, specs.Option.option_map_or}
 use Rattle.std.proofs.lemmas.Bool.{false≢true}
-use Rattle.formats.specs.declared.events.Event.{Event}
-use Rattle.formats.specs.Events.{same_event}
-use Rattle.texts.specs.declared.command.Command.{Command}
-use Rattle.texts.specs.declared.command.Command.TheVariants.{Cancel}
-use Rattle.texts.specs.declared.command.Settings.{Settings}
+use Rattle.formats.specs.{declared.events.Event.Event, Events.same_event}
+use Rattle.texts.specs.declared.command.Command.{Command, TheVariants.Cancel}
 use Rattle.texts.specs.Fields.{round_id}
-use Rattle.commands.specs.Accepted.{Opened, opened, opened_by, opening, is_cancelled, just_opened}
-use Rattle.commands.specs.Accepted.{plus_command, last_of, solving, is_solved_since}
-use Rattle.commands.specs.Accepted.{is_solved, round_at, round_in, round_of}
-use Rattle.commands.proofs.Lookups.{last_push}
-use Rattle.commands.proofs.OneMore.{opened_push}
+use Rattle.commands.specs.Accepted.{Opened, opened, is_cancelled, plus_command, last_of, solving}
+use Rattle.commands.specs.Accepted.{is_solved_since, is_solved, round_at, round_in, round_of}
+use Rattle.commands.proofs.{Lookups.last_push, OneMore.asked_push, OneMore.asked_cancel}
 
 -- what one more command makes of it, in a round that is open
 abbrev solved_with : Event → ℕ → ℕ → ℕ → Command → Opened → Bool
@@ -30,48 +24,23 @@ since_push e r k n o c =
     step None b = refl
     step (Some x) b = refl
 
-solved_push : (e : Event) (r k n : ℕ) (cs : List Command) (c : Command)
-    → is_cancelled e r c ≡ false
+solved_push : (e : Event) (r k n : ℕ) (cs : List Command) (c : Command) → is_cancelled e r c ≡ false
     → is_solved (cs ++ c ∷ []) e r k n
     ≡ option_map_or (solved_with e r k n c) (opened e r [] cs) false
 solved_push e r k n cs c stays =
-    ap (λ o. option_map_or (is_solved_since e r k n) o false) (opened_push e r cs c)
-    ∙ step (opened e r [] cs)
-  where
-    new : (y : Option Settings)
-        → option_map_or (is_solved_since e r k n) (option_map (just_opened cs) y) false ≡ false
-    new None = refl
-    new (Some s) = refl
-
-    step : (x : Option Opened)
-        → option_map_or (is_solved_since e r k n) (opened_by e r cs x c) false
-        ≡ option_map_or (solved_with e r k n c) x false
-    step None = new (opening e r c)
-    step (Some o) =
-        ap
-        (λ (b : Bool).
-        option_map_or (is_solved_since e r k n) (cond b None (Some (plus_command c o))) false)
-        stays
-        ∙ since_push e r k n o c
+    asked_push (λ o. option_map_or (is_solved_since e r k n) o false)
+    (λ o. option_map_or (solved_with e r k n c) o false) e r cs c stays refl (λ s. refl)
+    (λ o. since_push e r k n o c)
 
 -- a command that enters nothing for the attempt, and takes no round back
 pub solved_same : (e : Event) (r k n : ℕ) (cs : List Command) (c : Command)
     → is_cancelled e r c ≡ false → solving e r k n c ≡ None
     → is_solved (cs ++ c ∷ []) e r k n ≡ is_solved cs e r k n
 solved_same e r k n cs c stays none =
-    solved_push e r k n cs c stays
-    ∙ ap
-    (λ (s : Option Bool).
-    option_map_or (λ (o : Opened). unwrap_or s (is_solved_since e r k n o)) (opened e r [] cs)
-    false)
-    none
-    ∙ step (opened e r [] cs)
-  where
-    step : (x : Option Opened)
-        → option_map_or (λ (o : Opened). unwrap_or None (is_solved_since e r k n o)) x false
-        ≡ option_map_or (is_solved_since e r k n) x false
-    step None = refl
-    step (Some o) = refl
+    asked_push (λ o. option_map_or (is_solved_since e r k n) o false)
+    (λ o. option_map_or (is_solved_since e r k n) o false) e r cs c stays refl (λ s. refl) (λ o.
+    since_push e r k n o c
+    ∙ ap (λ (x : Option Bool). unwrap_or x (is_solved_since e r k n o)) none)
 
 -- a command that enters something for it, or for another one, in a round that is open
 pub solved_entered : (e : Event) (r k n : ℕ) (cs : List Command) (c : Command) (b solved : Bool)
@@ -83,20 +52,15 @@ solved_entered e r k n cs c false solved stays is there = solved_same e r k n cs
 solved_entered e zero k n cs c true solved stays is there = absurd (false≢true (there refl))
 solved_entered e (suc r) k n cs c true solved stays is there =
     solved_push e (suc r) k n cs c stays
-    ∙ ap
-    (λ (s : Option Bool).
+    ∙ ap (λ (s : Option Bool).
     option_map_or (λ (o : Opened). unwrap_or s (is_solved_since e (suc r) k n o))
-    (opened e (suc r) [] cs) false)
-    is
+    (opened e (suc r) [] cs) false) is
     ∙ step (opened e (suc r) [] cs) (there refl)
   where
-    step : (x : Option Opened)
-        → is_some
-        (option_map (λ (o : Opened). round_at e (suc r) (round_in e r o.before) o) x)
-        ≡ true
+    step : (x : Option Opened) → is_some
+        (option_map (λ (o : Opened). round_at e (suc r) (round_in e r o.before) o) x) ≡ true
         → option_map_or
-        (λ (o : Opened). unwrap_or (Some solved) (is_solved_since e (suc r) k n o)) x false
-        ≡ solved
+        (λ (o : Opened). unwrap_or (Some solved) (is_solved_since e (suc r) k n o)) x false ≡ solved
     step None h = absurd (false≢true h)
     step (Some o) h = refl
 
@@ -104,23 +68,6 @@ solved_entered e (suc r) k n cs c true solved stays is there =
 pub solved_cancel : (e f : Event) (r s k n : ℕ) (cs : List Command)
     → is_solved (cs ++ Cancel (round_id f s) ∷ []) e r k n
     ≡ cond (same_event e f && r == s) false (is_solved cs e r k n)
-solved_cancel e f r s k n cs = step (same_event e f && r == s) refl
-  where
-    c : Command
-    c = Cancel (round_id f s)
-
-    gone : (x : Option Opened) → (same_event e f && r == s) ≡ true
-        → option_map_or (is_solved_since e r k n) (opened_by e r cs x c) false ≡ false
-    gone None here = refl
-    gone (Some o) here =
-        ap
-        (λ (b : Bool).
-        option_map_or (is_solved_since e r k n) (cond b None (Some (plus_command c o))) false)
-        here
-
-    step : (b : Bool) → (same_event e f && r == s) ≡ b
-        → is_solved (cs ++ c ∷ []) e r k n ≡ cond b false (is_solved cs e r k n)
-    step true here =
-        ap (λ o. option_map_or (is_solved_since e r k n) o false) (opened_push e r cs c)
-        ∙ gone (opened e r [] cs) here
-    step false other = solved_same e r k n cs c other refl
+solved_cancel e f r s k n cs =
+    asked_cancel (λ o. option_map_or (is_solved_since e r k n) o false) e f r s cs
+    (λ o. since_push e r k n o (Cancel (round_id f s)))

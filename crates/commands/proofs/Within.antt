@@ -1,11 +1,9 @@
 -- The attempt of a command that is fit.
 use Rattle.std.proofs.Common.{ℕ, List}
 use Rattle.cube.specs.declared.moves.Move.{Move}
-use Rattle.texts.specs.declared.command.AttemptEntry.{AttemptEntry}
+use Rattle.texts.specs.declared.command.{AttemptEntry.AttemptEntry, RoundId.RoundId}
 use Rattle.texts.specs.declared.command.Command.TheVariants.{Attempt, Correct, Rescramble}
-use Rattle.texts.specs.declared.command.RoundId.{RoundId}
-use Rattle.texts.specs.Spelling.{IsFit, IsWithin}
-use Rattle.texts.specs.Table.{rows}
+use Rattle.texts.specs.{Spelling.IsFit, Spelling.IsWithin, Table.rows}
 
 pub attempt_within : (entry : AttemptEntry) → IsFit (Attempt entry) → IsWithin 1 5 entry.attempt
 unfolding rows

@@ -3,15 +3,14 @@
 -- refused. There is one definition of it for all editions: which commands there are depends on the
 -- edition that holds (`History`), and what one says does not. The checks and their order are this
 -- project's own.
-use Rattle.std.specs.Prelude.{◌+◌, ◌-◌, not, ◌&&◌, nat_lt, nat_le, if◌then◌else◌, List, is_some}
-use Rattle.std.specs.Prelude.{ℕ, Option, None, Some}
+use Rattle.std.specs.Prelude.{◌+◌, ◌-◌, not, ◌&&◌, nat_lt, nat_le, if◌then◌else◌, List, is_some, ℕ}
+use Rattle.std.specs.Prelude.{Option, None, Some}
 use Rattle.formats.specs.declared.events.Event.{Event}
-use Rattle.texts.specs.declared.command.Command.{Command}
+use Rattle.texts.specs.declared.command.Command.{Command, TheVariants.Fix, TheVariants.Cancel}
 use Rattle.texts.specs.declared.command.Command.TheVariants.{Register, Open, Enter, Scramble}
 use Rattle.texts.specs.declared.command.Command.TheVariants.{Attempt, Correct, Strike, SetAdvance}
 use Rattle.texts.specs.declared.command.Command.TheVariants.{Close, SetEdition, Rename, SetRound}
-use Rattle.texts.specs.declared.command.Command.TheVariants.{Rescramble, Withdraw, Reopen}
-use Rattle.texts.specs.declared.command.Command.TheVariants.{Card, Fix, Cancel}
+use Rattle.texts.specs.declared.command.Command.TheVariants.{Rescramble, Withdraw, Reopen, Card}
 use Rattle.texts.specs.declared.answer.Code.{Code}
 use Rattle.texts.specs.declared.answer.Code.TheVariants as code
 pub use Rattle.commands.specs.Standing.{last_of, standing}

@@ -1,24 +1,20 @@
 -- The checks of attempts, scrambles and entries. They and their order are this project's own.
 use Rattle.std.specs.Prelude.{ℕ, Bool, true, false, not, ◌&&◌, nat_lt, if◌then◌else◌, List, is_some}
 use Rattle.std.specs.Prelude.{Option, None, Some}
-use Rattle.std.specs.List.{list_any}
-use Rattle.std.specs.Option.{option_or, option_map, option_and_then}
+use Rattle.std.specs.{List.list_any, Option.option_or, Option.option_map, Option.option_and_then}
 use Rattle.cube.specs.declared.moves.Move.{Move}
 use Rattle.attempts.specs.declared.Unit.{Unit as Measure}
-use Rattle.attempts.specs.declared.Unit.TheVariants as measure
-use Rattle.formats.specs.declared.events.Event.{Event}
-use Rattle.formats.specs.Events.{unit_of, attempts_of}
-use Rattle.texts.specs.declared.command.Entered.{Entered}
-use Rattle.texts.specs.declared.command.Entered.TheVariants as entered
-use Rattle.texts.specs.declared.command.Settings.{Settings}
+use Rattle.formats.specs.{declared.events.Event.Event, Events.unit_of, Events.attempts_of}
+use Rattle.texts.specs.declared.command.{Entered.Entered, Settings.Settings}
 use Rattle.texts.specs.declared.answer.Code.{Code}
-use Rattle.texts.specs.declared.answer.Code.TheVariants as code
 use Rattle.rounds.specs.Tables.{Table, enter_fault, put_fault, correct_fault, strike_fault}
 use Rattle.rounds.specs.Tables.{withdraw_fault, has_done, entrant, standings}
 use Rattle.advancement.specs.Advancing.{holds_of}
-use Rattle.commands.specs.Values.{settled}
+use Rattle.commands.specs.{Values.settled, FaultCodes.withdraw_code}
 use Rattle.commands.specs.FaultCodes.{enter_code, put_code, correct_code, strike_code}
-use Rattle.commands.specs.FaultCodes.{withdraw_code}
+use Rattle.attempts.specs.declared.Unit.TheVariants as measure
+use Rattle.texts.specs.declared.command.Entered.TheVariants as entered
+use Rattle.texts.specs.declared.answer.Code.TheVariants as code
 
 -- timed events alone accept times
 abbrev pub is_time : Measure → Bool
@@ -50,10 +46,7 @@ is_wrong unit entered.Dns = false
 -- a solution, for an attempt that has no scramble
 abbrev pub lacks_scramble : Option (List Move) → Entered → Bool
 lacks_scramble scramble (entered.Solution solution) = not (is_some scramble)
-lacks_scramble scramble (entered.Time time penalties) = false
-lacks_scramble scramble (entered.Multi solved attempted seconds) = false
-lacks_scramble scramble entered.Dnf = false
-lacks_scramble scramble entered.Dns = false
+lacks_scramble scramble _ = false
 
 -- the first check of a scramble that fails
 abbrev pub scramble_refusal : Event → ℕ → Option (List Move) → Option (Settings × Table)

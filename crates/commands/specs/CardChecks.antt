@@ -1,24 +1,20 @@
 -- The checks of a scorecard: in a round that is open, and in one that is closed. Each is made of
 -- the whole card before the next one is. They and their order are this project's own.
-use Rattle.std.specs.Prelude.{ℕ, suc, Bool, true, false, not, ◌==◌, ◌&&◌, ◌||◌, if◌then◌else◌}
-use Rattle.std.specs.Prelude.{List, [], ◌∷◌, is_some, Option, None, Some}
+use Rattle.std.specs.Prelude.{ℕ, suc, Bool, true, false, not, ◌==◌, ◌&&◌, ◌||◌, if◌then◌else◌, List}
+use Rattle.std.specs.Prelude.{[], ◌∷◌, is_some, Option, None, Some}
 use Rattle.std.specs.Option.{option_or, option_map}
 use Rattle.cube.specs.declared.moves.Move.{Move}
 use Rattle.attempts.specs.declared.Value.{Value}
-use Rattle.attempts.specs.declared.Value.TheVariants as value
-use Rattle.formats.specs.declared.events.Event.{Event}
-use Rattle.formats.specs.Events.{unit_of}
-use Rattle.texts.specs.declared.command.CardEntry.{CardEntry}
-use Rattle.texts.specs.declared.command.Entered.{Entered}
-use Rattle.texts.specs.declared.command.Settings.{Settings}
+use Rattle.formats.specs.{declared.events.Event.Event, Events.unit_of}
+use Rattle.texts.specs.declared.command.{CardEntry.CardEntry, Entered.Entered, Settings.Settings}
 use Rattle.texts.specs.declared.answer.Code.{Code}
-use Rattle.texts.specs.declared.answer.Code.TheVariants as code
 use Rattle.rounds.specs.Tables.{Entrant, Table, entrant, set_fault, fix_fault, with_values}
 use Rattle.rounds.specs.Tables.{is_attempted, started}
-use Rattle.commands.specs.Values.{settled, values_now}
+use Rattle.commands.specs.{Values.settled, Values.values_now, RoundChecks.breaks_rounds_rule}
 use Rattle.commands.specs.FaultCodes.{set_code, fix_code}
 use Rattle.commands.specs.AttemptChecks.{is_wrong, lacks_scramble}
-use Rattle.commands.specs.RoundChecks.{breaks_rounds_rule}
+use Rattle.attempts.specs.declared.Value.TheVariants as value
+use Rattle.texts.specs.declared.answer.Code.TheVariants as code
 
 -- some outcome, from attempt k on, is one of these
 abbrev pub has_outcome : (ℕ → Entered → Bool) → ℕ → List (Option Entered) → Bool
@@ -36,14 +32,9 @@ unfit_card_refusal e scrambles now =
 
 abbrev pub is_value : Value → Value → Bool
 is_value (value.Number n) (value.Number m) = n == m
-is_value (value.Number n) value.Dnf = false
-is_value (value.Number n) value.Dns = false
-is_value value.Dnf (value.Number m) = false
 is_value value.Dnf value.Dnf = true
-is_value value.Dnf value.Dns = false
-is_value value.Dns (value.Number m) = false
-is_value value.Dns value.Dnf = false
 is_value value.Dns value.Dns = true
+is_value _ _ = false
 
 abbrev pub are_values : List Value → List Value → Bool
 are_values [] [] = true
@@ -75,8 +66,7 @@ abbrev pub card_refusal : Event → (ℕ → Option (List Move)) → CardEntry
     → Option (Settings × Table) → Option Code
 card_refusal e scrambles card None = Some code.RoundUnknown
 card_refusal e scrambles card (Some round) =
-    option_or (unfit_card_refusal e scrambles card.now)
-    (if round.1.is_closed then Some code.Closed
+    option_or (unfit_card_refusal e scrambles card.now) (if round.1.is_closed then Some code.Closed
     else option_or (seen_refusal card.was (entrant round.1 card.number))
     (option_map set_code (set_fault round.1 card.number (card_values scrambles card round.0))))
 
@@ -98,8 +88,7 @@ fix_refusal e scrambles card competitors is_next_open None = Some code.RoundUnkn
 fix_refusal e scrambles card competitors is_next_open (Some round) =
     option_or (unfit_card_refusal e scrambles card.now)
     (if not round.1.is_closed then Some code.NotClosed
-    else option_or (seen_refusal card.was (entrant round.1 card.number))
-    (option_or
+    else option_or (seen_refusal card.was (entrant round.1 card.number)) (option_or
     (option_map fix_code (fix_fault round.1 card.number (card_values scrambles card round.0)))
     (if breaks_with competitors is_next_open card.id.round (with_card scrambles card round)
     then Some code.RoundsRule else None)))

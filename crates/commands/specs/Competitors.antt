@@ -1,10 +1,8 @@
 -- Who is registered, and under which name (the project's own).
 use Rattle.std.specs.Prelude.{ℕ, Bool, false, not, ◌==◌, ◌&&◌, if◌then◌else◌, List, bytes_eq}
 use Rattle.std.specs.Prelude.{is_some, Option, None, Some}
-use Rattle.std.specs.List.{list_any}
-use Rattle.std.specs.Option.{option_map_or}
-use Rattle.texts.specs.declared.command.Command.{Command}
-use Rattle.texts.specs.declared.command.Command.TheVariants.{Register, Rename}
+use Rattle.std.specs.{List.list_any, Option.option_map_or}
+use Rattle.texts.specs.declared.command.Command.{Command, TheVariants.Register, TheVariants.Rename}
 use Rattle.commands.specs.Standing.{standing}
 
 -- the name that a command gives a number

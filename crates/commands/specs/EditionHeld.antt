@@ -1,7 +1,6 @@
 -- The edition that holds (the project's own).
 use Rattle.std.specs.Prelude.{ℕ, List, [], ◌∷◌, unwrap_or, Option, None, Some}
-use Rattle.texts.specs.declared.command.Command.{Command}
-use Rattle.texts.specs.declared.command.Command.TheVariants.{SetEdition}
+use Rattle.texts.specs.declared.command.Command.{Command, TheVariants.SetEdition}
 
 -- the edition that a command sets
 abbrev pub edition_set : Command → Option ℕ

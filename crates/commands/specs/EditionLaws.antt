@@ -4,8 +4,7 @@
 -- say what an edition means, nor that it means what it did. The worked days and sheets of each
 -- edition say that, and the stored rows of answers.
 use Rattle.std.specs.Prelude.{◌≡◌, ◌<◌, ◌≤◌, ℕ, List, All}
-use Rattle.texts.specs.declared.command.Command.TheVariants.{SetEdition}
-use Rattle.texts.specs.Spelling.{spelling}
+use Rattle.texts.specs.{declared.command.Command.TheVariants.SetEdition, Spelling.spelling}
 use Rattle.commands.specs.History.{answer_in, history_in}
 
 -- a text sets no edition after k, up to `later`

@@ -1,26 +1,21 @@
 -- The codes for what a table refuses (the project's own).
 use Rattle.std.specs.Prelude.{Option, None, Some}
 use Rattle.texts.specs.declared.answer.Code.{Code}
-use Rattle.texts.specs.declared.answer.Code.TheVariants as code
-use Rattle.rounds.specs.declared.fault.WithdrawFault.{WithdrawFault}
-use Rattle.rounds.specs.declared.fault.WithdrawFault.TheVariants as withdraw
-use Rattle.rounds.specs.declared.fault.RulesFault.{RulesFault}
-use Rattle.rounds.specs.declared.fault.RulesFault.TheVariants as rules
-use Rattle.rounds.specs.declared.fault.ReopenFault.{ReopenFault}
-use Rattle.rounds.specs.declared.fault.ReopenFault.TheVariants as reopen
-use Rattle.rounds.specs.declared.fault.EnterFault.{EnterFault}
-use Rattle.rounds.specs.declared.fault.EnterFault.TheVariants as enter
-use Rattle.rounds.specs.declared.fault.PutFault.{PutFault}
-use Rattle.rounds.specs.declared.fault.PutFault.TheVariants as put
-use Rattle.rounds.specs.declared.fault.CorrectFault.{CorrectFault}
-use Rattle.rounds.specs.declared.fault.CorrectFault.TheVariants as correct
-use Rattle.rounds.specs.declared.fault.SetFault.{SetFault}
-use Rattle.rounds.specs.declared.fault.SetFault.TheVariants as set
-use Rattle.rounds.specs.declared.fault.FixFault.{FixFault}
-use Rattle.rounds.specs.declared.fault.FixFault.TheVariants as fix
+use Rattle.rounds.specs.declared.fault.{WithdrawFault.WithdrawFault, RulesFault.RulesFault}
+use Rattle.rounds.specs.declared.fault.{ReopenFault.ReopenFault, EnterFault.EnterFault}
+use Rattle.rounds.specs.declared.fault.{PutFault.PutFault, CorrectFault.CorrectFault}
+use Rattle.rounds.specs.declared.fault.{SetFault.SetFault, FixFault.FixFault, CloseFault.CloseFault}
 use Rattle.rounds.specs.declared.fault.StrikeFault.{StrikeFault}
+use Rattle.texts.specs.declared.answer.Code.TheVariants as code
+use Rattle.rounds.specs.declared.fault.WithdrawFault.TheVariants as withdraw
+use Rattle.rounds.specs.declared.fault.RulesFault.TheVariants as rules
+use Rattle.rounds.specs.declared.fault.ReopenFault.TheVariants as reopen
+use Rattle.rounds.specs.declared.fault.EnterFault.TheVariants as enter
+use Rattle.rounds.specs.declared.fault.PutFault.TheVariants as put
+use Rattle.rounds.specs.declared.fault.CorrectFault.TheVariants as correct
+use Rattle.rounds.specs.declared.fault.SetFault.TheVariants as set
+use Rattle.rounds.specs.declared.fault.FixFault.TheVariants as fix
 use Rattle.rounds.specs.declared.fault.StrikeFault.TheVariants as strike
-use Rattle.rounds.specs.declared.fault.CloseFault.{CloseFault}
 use Rattle.rounds.specs.declared.fault.CloseFault.TheVariants as close
 
 -- the code for a table's refusal of an entry; want of memory is no answer to a command

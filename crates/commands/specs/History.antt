@@ -4,18 +4,13 @@
 use Rattle.std.specs.Prelude.{◌≡◌, ℕ, ◌==◌, Bool, true, nat_le, if◌then◌else◌, List, [], ◌∷◌, ◌++◌}
 use Rattle.std.specs.Prelude.{fold, Option, None, Some, Result, Ok, Err}
 use Rattle.std.specs.List.{list_any}
-use Rattle.texts.specs.declared.command.Command.{Command}
-use Rattle.texts.specs.declared.command.Command.TheVariants.{SetEdition}
-use Rattle.texts.specs.declared.command.RemarkedCommand.{RemarkedCommand}
-use Rattle.texts.specs.declared.answer.Answer.{Answer}
-use Rattle.texts.specs.declared.answer.Answer.TheVariants.{Done, Refused}
-use Rattle.texts.specs.declared.answer.Code.{Code}
-use Rattle.texts.specs.declared.answer.Code.TheVariants as code
-use Rattle.texts.specs.declared.reading.CommandFault.{CommandFault}
-use Rattle.texts.specs.Editions.{is_spelled_in}
-use Rattle.texts.specs.Reading.{command_of}
-use Rattle.texts.specs.Spelling.{last_edition}
+use Rattle.texts.specs.declared.command.Command.{Command, TheVariants.SetEdition}
+use Rattle.texts.specs.{declared.command.RemarkedCommand.RemarkedCommand, Editions.is_spelled_in}
+use Rattle.texts.specs.declared.answer.Answer.{Answer, TheVariants.Done, TheVariants.Refused}
+use Rattle.texts.specs.{declared.answer.Code.Code, Spelling.last_edition}
+use Rattle.texts.specs.{declared.reading.CommandFault.CommandFault, Reading.command_of}
 use Rattle.commands.specs.Accepted.{edition_in, refusal}
+use Rattle.texts.specs.declared.answer.Code.TheVariants as code
 
 -- the ids seen so far, and the accepted commands, each in order
 pub record History : Type 0 where

@@ -1,14 +1,10 @@
 -- Laws of openings (the project's own).
 use Rattle.std.specs.Prelude.{◌≡◌, ℕ, false, List, [], ◌∷◌, ◌++◌, Option, None}
-use Rattle.std.specs.List.{list_any}
-use Rattle.std.specs.Option.{option_or, option_map}
+use Rattle.std.specs.{List.list_any, Option.option_or, Option.option_map}
 use Rattle.formats.specs.declared.events.Event.{Event}
-use Rattle.texts.specs.declared.command.Command.{Command}
+use Rattle.texts.specs.declared.command.{Command.Command, RoundId.RoundId, Settings.Settings}
 use Rattle.texts.specs.declared.command.Command.TheVariants.{Open, Cancel}
-use Rattle.texts.specs.declared.command.RoundId.{RoundId}
-use Rattle.texts.specs.declared.command.Settings.{Settings}
-use Rattle.commands.specs.Accepted.{Opened, opened, opening, is_cancelled}
-use Rattle.commands.specs.Accepted.{refusal, round_of}
+use Rattle.commands.specs.Accepted.{Opened, opened, opening, is_cancelled, refusal, round_of}
 
 -- a round as the first command to open it opened it; `earlier` are the commands in front of these
 abbrev pub first_opened : Event → ℕ → List Command → List Command → Option Opened

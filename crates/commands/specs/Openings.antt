@@ -1,15 +1,9 @@
 -- The opening of a round that holds, and its settings as they are since (the project's own).
 use Rattle.std.specs.Prelude.{ℕ, Bool, false, ◌==◌, ◌&&◌, if◌then◌else◌, List, [], ◌∷◌, ◌++◌}
-use Rattle.std.specs.Prelude.{Option, None}
-use Rattle.std.specs.Prelude.{Some}
-use Rattle.std.specs.Option.{option_map}
-use Rattle.formats.specs.declared.events.Event.{Event}
-use Rattle.formats.specs.Events.{same_event}
-use Rattle.texts.specs.declared.command.Command.{Command}
-use Rattle.texts.specs.declared.command.Command.TheVariants.{Open, SetAdvance, SetRound}
-use Rattle.texts.specs.declared.command.Command.TheVariants.{Cancel}
-use Rattle.texts.specs.declared.command.RoundId.{RoundId}
-use Rattle.texts.specs.declared.command.Settings.{Settings}
+use Rattle.std.specs.{Prelude.Option, Prelude.None, Prelude.Some, Option.option_map}
+use Rattle.formats.specs.{declared.events.Event.Event, Events.same_event}
+use Rattle.texts.specs.declared.command.{Command.Command, RoundId.RoundId, Settings.Settings}
+use Rattle.texts.specs.declared.command.Command.TheVariants.{Open, SetAdvance, SetRound, Cancel}
 
 -- a round is that of an event and a number
 abbrev pub is_of : Event → ℕ → RoundId → Bool

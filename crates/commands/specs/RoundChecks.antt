@@ -2,24 +2,20 @@
 -- are this project's own; a rule of the WCA Regulations is named with its article.
 use Rattle.std.specs.Prelude.{ℕ, ◌+◌, ◌-◌, Bool, true, false, not, ◌&&◌, nat_lt, if◌then◌else◌}
 use Rattle.std.specs.Prelude.{is_some, Option, None, Some}
-use Rattle.std.specs.List.{list_any, range_with_len}
-use Rattle.std.specs.Option.{option_or, option_map}
+use Rattle.std.specs.{List.list_any, List.range_with_len, Option.option_or, Option.option_map}
 use Rattle.attempts.specs.declared.Unit.{Unit as Measure}
-use Rattle.attempts.specs.declared.Unit.TheVariants as measure
-use Rattle.formats.specs.declared.events.Event.{Event}
-use Rattle.formats.specs.declared.events.Format.{Format}
+use Rattle.formats.specs.declared.events.{Event.Event, Format.Format}
 use Rattle.formats.specs.Events.{unit_of, is_allowed, attempts_of}
 use Rattle.formats.specs.declared.advance.Advance.{Advance}
 use Rattle.formats.specs.declared.advance.Advance.TheVariants.{Final, Top, Percent}
-use Rattle.texts.specs.declared.command.Settings.{Settings}
-use Rattle.texts.specs.declared.answer.Code.{Code}
-use Rattle.texts.specs.declared.answer.Code.TheVariants as code
-use Rattle.rounds.specs.declared.fault.ReopenFault.{ReopenFault}
+use Rattle.texts.specs.declared.{command.Settings.Settings, answer.Code.Code}
+use Rattle.rounds.specs.declared.fault.{ReopenFault.ReopenFault, CloseFault.CloseFault}
 use Rattle.rounds.specs.Tables.{Table, started, close_fault, rules_fault, reopen_fault}
-use Rattle.rounds.specs.declared.fault.CloseFault.{CloseFault}
 use Rattle.advancement.specs.Advancing.{later_rounds}
 use Rattle.commands.specs.FaultCodes.{close_code, rules_code, reopen_code}
 use Rattle.commands.specs.AttemptChecks.{is_multi}
+use Rattle.attempts.specs.declared.Unit.TheVariants as measure
+use Rattle.texts.specs.declared.answer.Code.TheVariants as code
 
 -- a cutoff counts fewer attempts than the format has; multi-blind has no cutoff
 abbrev pub is_cutoff : Measure → Format → Option (ℕ × ℕ) → Bool

@@ -3,20 +3,14 @@
 use Rattle.std.specs.Prelude.{ℕ, zero, suc, Bool, true, false, not, ◌==◌, ◌&&◌, if◌then◌else◌, List}
 use Rattle.std.specs.Prelude.{[], ◌∷◌, ◌++◌, map, unwrap_or, option_to_list, Option, None, Some}
 use Rattle.std.specs.Prelude.{filter, count_by, slice_get}
-use Rattle.std.specs.List.{list_any}
-use Rattle.std.specs.Option.{option_map}
-use Rattle.formats.specs.declared.events.Event.{Event}
-use Rattle.formats.specs.Events.{same_event, unit_of}
-use Rattle.texts.specs.declared.command.Command.{Command}
+use Rattle.std.specs.{List.list_any, Option.option_map}
+use Rattle.formats.specs.{declared.events.Event.Event, Events.same_event, Events.unit_of}
+use Rattle.texts.specs.declared.command.{Command.Command, RoundId.RoundId, Settings.Settings}
 use Rattle.texts.specs.declared.command.Command.TheVariants.{Enter, Close, Withdraw, Reopen}
-use Rattle.texts.specs.declared.command.RoundId.{RoundId}
-use Rattle.texts.specs.declared.command.Settings.{Settings}
 use Rattle.rounds.specs.Tables.{Entrant, Table}
-use Rattle.advancement.specs.Advancing.{advancing}
-use Rattle.advancement.specs.Waiting.{waiting}
-use Rattle.commands.specs.Standing.{last_of}
+use Rattle.advancement.specs.{Advancing.advancing, Waiting.waiting}
+use Rattle.commands.specs.{Standing.last_of, Values.values_after}
 use Rattle.commands.specs.Openings.{is_of, Opened, opened, settings_now}
-use Rattle.commands.specs.Values.{values_after}
 
 -- a command takes an entrant out of a round
 abbrev pub is_withdrawal : Event → ℕ → Command → Bool

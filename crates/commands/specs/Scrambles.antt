@@ -3,11 +3,9 @@ use Rattle.std.specs.Prelude.{ℕ, ◌==◌, ◌&&◌, if◌then◌else◌, List
 use Rattle.std.specs.Option.{option_and_then}
 use Rattle.cube.specs.declared.moves.Move.{Move}
 use Rattle.formats.specs.declared.events.Event.{Event}
-use Rattle.texts.specs.declared.command.Command.{Command}
+use Rattle.texts.specs.declared.command.{Command.Command, AttemptEntry.AttemptEntry}
 use Rattle.texts.specs.declared.command.Command.TheVariants.{Scramble, Rescramble}
-use Rattle.texts.specs.declared.command.AttemptEntry.{AttemptEntry}
-use Rattle.commands.specs.Standing.{standing}
-use Rattle.commands.specs.Openings.{is_of, Opened, opened}
+use Rattle.commands.specs.{Standing.standing, Openings.is_of, Openings.Opened, Openings.opened}
 
 -- the scramble that a command sets for an attempt
 abbrev pub scrambling : Event → ℕ → ℕ → Command → Option (List Move)

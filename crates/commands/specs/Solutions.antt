@@ -1,23 +1,17 @@
 -- Whether what was entered last for an attempt is a solution (the project's own).
 use Rattle.std.specs.Prelude.{ℕ, suc, Bool, true, false, ◌==◌, ◌&&◌, if◌then◌else◌, List, [], ◌∷◌}
-use Rattle.std.specs.Prelude.{unwrap_or}
-use Rattle.std.specs.Prelude.{Option, None, Some}
+use Rattle.std.specs.Prelude.{unwrap_or, Option, None, Some}
 use Rattle.std.specs.Option.{option_map_or, option_map}
 use Rattle.formats.specs.declared.events.Event.{Event}
-use Rattle.texts.specs.declared.command.Command.{Command}
+use Rattle.texts.specs.declared.command.{Command.Command, Entered.Entered}
 use Rattle.texts.specs.declared.command.Command.TheVariants.{Attempt, Correct, Card, Fix}
-use Rattle.texts.specs.declared.command.Entered.{Entered}
+use Rattle.commands.specs.{Standing.last_of, Openings.is_of, Openings.Opened, Openings.opened}
 use Rattle.texts.specs.declared.command.Entered.TheVariants as entered
-use Rattle.commands.specs.Standing.{last_of}
-use Rattle.commands.specs.Openings.{is_of, Opened, opened}
 
 -- a solution was entered
 abbrev pub is_solution : Entered → Bool
 is_solution (entered.Solution solution) = true
-is_solution (entered.Time time penalties) = false
-is_solution (entered.Multi solved attempted seconds) = false
-is_solution entered.Dnf = false
-is_solution entered.Dns = false
+is_solution _ = false
 
 -- a card enters a solution for attempt k, or something else; its attempts are counted from j
 abbrev pub solving_at : ℕ → ℕ → List (Option Entered) → Option Bool

@@ -3,21 +3,15 @@ use Rattle.std.specs.Prelude.{ℕ, suc, ◌==◌, ◌&&◌, if◌then◌else◌,
 use Rattle.std.specs.Prelude.{Some}
 use Rattle.cube.specs.declared.moves.Move.{Move}
 use Rattle.fmc_check.specs.Fewest.{result_of}
-use Rattle.attempts.specs.declared.Value.{Value}
-use Rattle.attempts.specs.Attempts.{value_of}
-use Rattle.attempts.specs.declared.Outcome.{Outcome}
-use Rattle.attempts.specs.declared.Outcome.TheVariants as outcome
+use Rattle.attempts.specs.{declared.Value.Value, Attempts.value_of, declared.Outcome.Outcome}
 use Rattle.formats.specs.declared.events.Event.{Event}
-use Rattle.texts.specs.declared.command.Command.{Command}
+use Rattle.texts.specs.declared.command.{Command.Command, AttemptEntry.AttemptEntry}
 use Rattle.texts.specs.declared.command.Command.TheVariants.{Attempt, Correct, Strike, Card, Fix}
-use Rattle.texts.specs.declared.command.AttemptEntry.{AttemptEntry}
-use Rattle.texts.specs.declared.command.RoundId.{RoundId}
-use Rattle.texts.specs.declared.command.Entered.{Entered}
-use Rattle.texts.specs.declared.command.Entered.TheVariants as entered
-use Rattle.texts.specs.declared.command.Settings.{Settings}
+use Rattle.texts.specs.declared.command.{RoundId.RoundId, Entered.Entered, Settings.Settings}
 use Rattle.rounds.specs.Tables.{replaced, without_last}
-use Rattle.commands.specs.Openings.{is_of, settings_after}
-use Rattle.commands.specs.Scrambles.{scramble_in}
+use Rattle.commands.specs.{Openings.is_of, Openings.settings_after, Scrambles.scramble_in}
+use Rattle.attempts.specs.declared.Outcome.TheVariants as outcome
+use Rattle.texts.specs.declared.command.Entered.TheVariants as entered
 
 -- the outcome of a solution under a scramble; without a scramble no solution is taken
 abbrev pub solved_under : Option (List Move) → List Move → Outcome

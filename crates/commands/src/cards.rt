@@ -4,17 +4,16 @@
 ghost use Rattle.std.specs.Prelude.{◌≡◌, ◌<◌, ◌≤◌, ◌+◌, ◌++◌, ◌&&◌, IfOk, IfNone, OnErr};
 ghost use Rattle.std.specs.Prelude.{slice_index_or, length, is_some, not, true, None};
 ghost use Rattle.std.specs.List.{list_any};
-ghost use Rattle.attempts.specs.declared.Value.TheVariants as value;
-ghost use Rattle.rounds.specs.Rows.{AreValues};
-ghost use Rattle.rounds.specs.Tables.{entrant};
-ghost use Rattle.texts.specs.declared.command.Command.TheVariants as command;
+ghost use Rattle.rounds.specs.{Rows.AreValues, Tables.entrant};
 ghost use Rattle.commands.specs.Accepted.{refusal, is_registered, are_values, seen_refusal};
 ghost use Rattle.commands.specs.Accepted.{is_wrong, has_outcome, unfit_card_refusal, counts_in};
 ghost use Rattle.commands.specs.Accepted.{card_values, breaks_rounds_rule, but_for};
 ghost use Rattle.commands.specs.History.{added};
-ghost use Rattle.commands.specs.model.Cards.{IsReadCard, scrambles_of, enters, lacks_in};
-ghost use Rattle.commands.specs.model.Cards.{value_at, state_refusal, early_refusal};
+ghost use Rattle.commands.specs.model.Cards.{IsReadCard, scrambles_of, enters, lacks_in, value_at};
+ghost use Rattle.commands.specs.model.Cards.{state_refusal, early_refusal};
 ghost use Rattle.commands.specs.model.Kept.{IsIndexOf, kept_value, kept_next, kept_competitors};
+ghost use Rattle.attempts.specs.declared.Value.TheVariants as value;
+ghost use Rattle.texts.specs.declared.command.Command.TheVariants as command;
 
 use crate::codes::{fix_code, set_code};
 use crate::index::Index;

@@ -2,15 +2,13 @@
 
 ghost use Rattle.std.specs.Prelude.{◌≡◌, ◌≤◌, IfOk, IfErr, IfNone, OnErr, OnSome};
 ghost use Rattle.std.specs.Option.{option_copied};
-ghost use Rattle.texts.specs.Fields.{round_id};
-ghost use Rattle.texts.specs.Spelling.{IsEntered};
+ghost use Rattle.texts.specs.{Fields.round_id, Spelling.IsEntered};
 ghost use Rattle.commands.specs.Accepted.{enter_refusal, scramble_refusal, strike_refusal};
 ghost use Rattle.commands.specs.Accepted.{advance_refusal, close_refusal, breaks_rounds_rule};
 ghost use Rattle.commands.specs.model.Kept.{kept_by, kept_competitors, with_strike, with_advance};
 ghost use Rattle.commands.specs.model.Kept.{with_end, with_entry, HasUnit, Changes, AddsScramble};
-ghost use Rattle.commands.specs.model.Settled.{IsSettled, IsUnfit, attempt_refusal};
-ghost use Rattle.commands.specs.model.Settled.{correction_refusal, AddsAttempt, Corrects};
-ghost use Rattle.commands.specs.model.Kept.{IsAsBefore};
+ghost use Rattle.commands.specs.model.{Kept.IsAsBefore, Settled.IsSettled, Settled.attempt_refusal};
+ghost use Rattle.commands.specs.model.Settled.{IsUnfit, correction_refusal, AddsAttempt, Corrects};
 
 use crate::codes::{close_code, correct_code, put_code, strike_code};
 use crate::kept_rounds::KeptRounds;

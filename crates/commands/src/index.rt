@@ -4,9 +4,8 @@ ghost use Rattle.std.specs.Prelude.{◌≡◌, ◌≤◌, ◌++◌, [], IfOk, On
 ghost use Rattle.std.specs.Option.{option_copied};
 ghost use Rattle.commands.specs.Accepted.{scramble_of, refusal, edition_in};
 ghost use Rattle.texts.specs.Spelling.{IsFit, IsFitCutoff};
-ghost use Rattle.commands.specs.History.{added};
+ghost use Rattle.commands.specs.{History.added, model.Kept.edition_refusal};
 ghost use Rattle.commands.specs.model.Kept.{IsIndexOf, competitor_of, is_of_nobody, scramble_at};
-ghost use Rattle.commands.specs.model.Kept.{edition_refusal};
 ghost use Rattle.texts.specs.declared.command.Command.TheVariants as command;
 
 use crate::competitors::Competitors;

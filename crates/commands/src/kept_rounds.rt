@@ -1,11 +1,10 @@
 //! The rounds that were opened, each with its table and the places of its scrambles.
 
 ghost use Rattle.std.specs.Prelude.{◌≡◌, ◌≤◌, [], is_some, MatchOption, option_map, position, find};
-ghost use Rattle.std.specs.Prelude.{None, suc};
-ghost use Rattle.std.specs.Option.{option_copied};
+ghost use Rattle.std.specs.{Prelude.None, Prelude.suc, Option.option_copied};
 ghost use Rattle.commands.specs.Accepted.{is_final, is_of, leads_on, competitors_of};
-ghost use Rattle.commands.specs.model.Kept.{is_round, kept_by, kept_scramble, IsKeptAt};
-ghost use Rattle.commands.specs.model.Kept.{kept_next, kept_competitors, kept_advanced};
+ghost use Rattle.commands.specs.model.Kept.{is_round, kept_by, kept_scramble, IsKeptAt, kept_next};
+ghost use Rattle.commands.specs.model.Kept.{kept_competitors, kept_advanced};
 
 use crate::solutions::Solutions;
 use advancement::Advance;

@@ -1,7 +1,6 @@
 //! Laws of what a list of entries comes to.
 
-ghost use Rattle.commands.specs.EditionLaws.{AnswersAsEarlier};
-ghost use Rattle.commands.specs.History.{SeesEachId};
+ghost use Rattle.commands.specs.{EditionLaws.AnswersAsEarlier, History.SeesEachId};
 ghost use Rattle.commands.specs.MendingLaws.{ClosesAsBefore, RenamesAlone};
 ghost use Rattle.commands.specs.OpeningLaws.{FirstOpeningHolds, CancelsAsBefore};
 

@@ -2,18 +2,15 @@
 //! withdraws, and a round that is opened again.
 
 ghost use Rattle.std.specs.Prelude.{◌≡◌, ◌≤◌, ◌+◌, IfOk, IfNone, OnErr, OnSome, drop};
-ghost use Rattle.std.specs.List.{list_any};
-ghost use Rattle.std.specs.Option.{option_copied};
+ghost use Rattle.std.specs.{List.list_any, Option.option_copied};
 ghost use Rattle.advancement.specs.Advancing.{holds_of};
 ghost use Rattle.rounds.specs.Tables.{standings, entrant, has_done};
-ghost use Rattle.texts.specs.Fields.{round_id};
-ghost use Rattle.texts.specs.Spelling.{IsFitCutoff};
+ghost use Rattle.texts.specs.{Fields.round_id, Spelling.IsFitCutoff};
 ghost use Rattle.commands.specs.Accepted.{rules_refusal, rescramble_refusal, withdraw_refusal};
 ghost use Rattle.commands.specs.Accepted.{reopen_refusal, has_solved};
 ghost use Rattle.commands.specs.model.Kept.{kept_by, waiting_by, with_settings, with_reopening};
 ghost use Rattle.commands.specs.model.Kept.{HasUnit, IsApart, Changes, Exchanges, AddsScramble};
-ghost use Rattle.commands.specs.model.Kept.{kept_solved, first_of_all};
-ghost use Rattle.commands.specs.model.Solved.{is_noted};
+ghost use Rattle.commands.specs.model.{Kept.kept_solved, Kept.first_of_all, Solved.is_noted};
 
 use crate::codes::{reopen_code, rules_code};
 use crate::kept_rounds::{KeptRound, KeptRounds};

@@ -2,10 +2,8 @@
 //! back.
 
 ghost use Rattle.std.specs.Prelude.{◌≡◌, ◌≤◌, ◌-◌, suc, IfOk, IfNone, OnOk, OnErr, OnSome, None};
-ghost use Rattle.std.specs.Prelude.{length, nat_eq};
-ghost use Rattle.std.specs.List.{IsDistinct};
-ghost use Rattle.formats.specs.Events.{unit_of};
-ghost use Rattle.formats.specs.Results.{IsFormatOf};
+ghost use Rattle.std.specs.{Prelude.length, Prelude.nat_eq, List.IsDistinct};
+ghost use Rattle.formats.specs.{Events.unit_of, Results.IsFormatOf};
 ghost use Rattle.rounds.specs.Tables.{IsCutoff, enter_fault, with_entrant};
 ghost use Rattle.texts.specs.Fields.{round_id};
 ghost use Rattle.commands.specs.Accepted.{who_advance, who_wait, cancel_refusal};

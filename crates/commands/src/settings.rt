@@ -1,8 +1,7 @@
 //! Which settings a round of an event may have.
 
 ghost use Rattle.std.specs.Prelude.{◌≡◌, IfNone, IsTrue};
-ghost use Rattle.formats.specs.Events.{unit_of};
-ghost use Rattle.formats.specs.Results.{IsFormatOf};
+ghost use Rattle.formats.specs.{Events.unit_of, Results.IsFormatOf};
 ghost use Rattle.rounds.specs.Tables.{IsCutoff};
 ghost use Rattle.texts.specs.Spelling.{IsFitCutoff};
 ghost use Rattle.commands.specs.Accepted.{is_cutoff, is_limit, settings_refusal};

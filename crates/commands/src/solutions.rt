@@ -3,8 +3,7 @@
 ghost use Rattle.std.specs.Prelude.{◌≡◌, ◌≤◌, ◌-◌, ◌&&◌, ◌==◌, IsTrue, OnOk, ℕ, false};
 ghost use Rattle.std.specs.Prelude.{if◌then◌else◌, slice_index_or, unwrap_or, option_map, length};
 ghost use Rattle.std.specs.List.{list_any};
-ghost use Rattle.commands.specs.Accepted.{is_solution, solving_at};
-ghost use Rattle.commands.specs.model.Cards.{enters};
+ghost use Rattle.commands.specs.{Accepted.is_solution, Accepted.solving_at, model.Cards.enters};
 ghost use Rattle.commands.specs.model.Solved.{is_noted, HasRow, KeepsNotes};
 
 use crate::outcomes::is_solution;

@@ -1,35 +1,28 @@
 -- What holds after each turn of whichever connection.
-use Rattle.std.proofs.Common.{◌≡◌, inl, inr, refl, sym, ap, subst, ◌∙◌, ℕ, ◌+◌, ◌≤◌}
-use Rattle.std.proofs.Common.{List, [], ◌∷◌, ◌++◌, length, length-append, Option, None, Some, arith}
-use Rattle.std.proofs.Common.{Bool, true, false, cond, eqb}
-use Rattle.std.proofs.lemmas.Bool.{eqb-true, eqb-false}
-use Rattle.std.proofs.lemmas.List.{append-nil, append_assoc}
+use Rattle.std.proofs.Common.{◌≡◌, inl, inr, refl, sym, ap, subst, ◌∙◌, ℕ, ◌+◌, ◌≤◌, List, [], ◌∷◌}
+use Rattle.std.proofs.Common.{◌++◌, length, length-append, Option, None, Some, arith, Bool, true}
+use Rattle.std.proofs.Common.{false, cond, eqb}
+use Rattle.std.proofs.lemmas.{Bool.eqb-true, Bool.eqb-false, List.append-nil, List.append_assoc}
 use Rattle.std.specs.List.{flat_map, AllByRecursion}
-use Rattle.answers.specs.declared.desk.Desk.{Ghosts as DeskOf}
-use Rattle.answers.specs.Seen.{Seen}
+use Rattle.answers.specs.{declared.desk.Desk.Ghosts as DeskOf, Seen.Seen}
 use Rattle.store.specs.declared.home.Home.{Home}
-use Rattle.wire.specs.declared.fault.WireFault.{WireFault}
-use Rattle.wire.specs.declared.values.Version.{Version}
-use Rattle.wire.specs.Ranges.{IsFrame}
-use Rattle.wire.specs.Spelling.{spelling}
+use Rattle.wire.specs.declared.{fault.WireFault.WireFault, values.Version.Version}
+use Rattle.wire.specs.{Ranges.IsFrame, Spelling.spelling}
 use Rattle.wire.specs.Stream.{IsBegun, IsKept, Reader, front, holding, keeps}
-use Rattle.serving.specs.declared.ends.ConnectionEnd.{ConnectionEnd}
-use Rattle.serving.specs.declared.ends.ConnectionEnd.TheVariants as end
+use Rattle.serving.specs.{declared.ends.ConnectionEnd.ConnectionEnd, Making.Makes, Serving.Act}
 use Rattle.serving.specs.Connection.{Begun, AreBegun, Sides, sides, serve_frame}
-use Rattle.serving.specs.Making.{Makes, Outside, Way}
-use Rattle.serving.specs.Serving.{Act}
-use Rattle.serving.specs.Turns.{Talk, BeginsNext, LeavesAt, OnlyReads, ReadsTo}
-use Rattle.serving.specs.Turns.{RunsOut, WantsRead, after_sent, broken_by, new_talk}
+use Rattle.serving.specs.{Making.Outside, Turns.after_sent, Turns.broken_by, Turns.new_talk}
+use Rattle.serving.{specs.Making.Way, proofs.Pieces.keeps_fault, proofs.Pieces.keeps_none}
+use Rattle.serving.specs.Turns.{Talk, BeginsNext, LeavesAt, OnlyReads, ReadsTo, RunsOut, WantsRead}
 use Rattle.serving.specs.TurnLaw.{Came, Began, IsQuiet, Place, Rested, Took, Turn, Turns, came_in}
-use Rattle.serving.specs.TurnLaw.{begun_at, begun_in}
-use Rattle.serving.specs.TurnLaw.{handed_out, received, taken_in}
+use Rattle.serving.specs.TurnLaw.{begun_at, begun_in, handed_out, received, taken_in}
 use Rattle.serving.proofs.Makings.{Makes-nil, Makes-trans}
-use Rattle.serving.proofs.Pieces.{keeps_fault, keeps_none}
 use Rattle.serving.proofs.TurnLaws.{keeps_nothing, more_came, not_begun, one_more, some_end}
 use Rattle.connections.specs.Connections.{AreCounted, AreServedInTurn, Connections, EachIsServed}
 use Rattle.connections.specs.Connections.{EndsBy, FollowEach, Goes, IsServedOf, MakesSome, Point}
 use Rattle.connections.specs.Connections.{Served, StayOpen, TurnOf, answers_of, begun_of, place_of}
 use Rattle.connections.specs.Connections.{point_of, served_of, turns_of}
+use Rattle.serving.specs.declared.ends.ConnectionEnd.TheVariants as end
 
 -- ---- one connection, whatever is seen of the node
 
@@ -67,8 +60,7 @@ at_first home wire talk is = subst (λ z. HoldsSome home [] [] [] z) (sym is) (
 
 -- an open connection is open after all its frames
 stays_open : (e : Option ConnectionEnd) (all : List Served) (rest : List ℕ) → e ≡ None
-    → EndsBy e all rest
-    → StayOpen all
+    → EndsBy e all rest → StayOpen all
 stays_open None all rest is h = h
 stays_open (Some e) all rest is h = absurd (some_end is)
 
@@ -76,8 +68,7 @@ stays_open (Some e) all rest is h = absurd (some_end is)
 
 -- the same frames, with another rest of what came
 stands_with : (home : Home) (came taken later rest next : List ℕ) (all : List Served)
-    (old new : Talk)
-    → OnlyReads old new → IsServedOf home came taken all rest old
+    (old new : Talk) → OnlyReads old new → IsServedOf home came taken all rest old
     → AreBegun later (begun_of all) (flat_map spelling new.waiting ++ next)
     → EndsBy new.end all next → IsServedOf home later taken all next new
 stands_with home came taken later rest next all old new only h begins ends = record {
@@ -92,10 +83,8 @@ stands_with home came taken later rest next all old new only h begins ends = rec
 
 -- the new frames wait, or the end came
 came_to : (e : Option ConnectionEnd) (home : Home) (came taken piece rest : List ℕ)
-    (all : List Served)
-    (old new : Talk)
-    → Holds home came taken all rest old → WantsRead old → OnlyReads old new
-    → old.stream ≡ holding rest → new.end ≡ e → ReadsTo e piece old new
+    (all : List Served) (old new : Talk) → Holds home came taken all rest old → WantsRead old
+    → OnlyReads old new → old.stream ≡ holding rest → new.end ≡ e → ReadsTo e piece old new
     → HoldsSome home (came ++ piece) taken all new
 came_to None home came taken piece rest all old new h wants only holds is r =
     let stays = stays_open old.end all rest wants.free.unended h.served.ends in
@@ -125,8 +114,7 @@ came_to (Some (end.Fault e)) home came taken piece rest all old new h wants only
         stream = λ none. absurd (some_end (sym is ∙ none));
         served =
             stands_with home came taken (came ++ piece) rest (rest ++ piece) all old new only
-            h.served
-            (subst (λ z. AreBegun (came ++ piece) (begun_of all)
+            h.served (subst (λ z. AreBegun (came ++ piece) (begun_of all)
             (flat_map spelling z ++ (rest ++ piece))) (sym r.2) begins)
             (subst (λ z. EndsBy z all (rest ++ piece)) (sym is) (inr (stays, (breaks, r.1))));
       },
@@ -141,8 +129,7 @@ came_to (Some end.NoMemory) home came taken piece rest all old new h wants only 
         stream = λ none. absurd (some_end (sym is ∙ none));
         served =
             stands_with home came taken (came ++ piece) rest (rest ++ piece) all old new only
-            h.served
-            (subst (λ z. AreBegun (came ++ piece) (begun_of all)
+            h.served (subst (λ z. AreBegun (came ++ piece) (begun_of all)
             (flat_map spelling z ++ (rest ++ piece))) (sym r.1) begins)
             (subst (λ z. EndsBy z all (rest ++ piece)) (sym is) (inr (stays, tt)));
       },
@@ -189,8 +176,7 @@ open_more [] f h is = (is, tt)
 open_more (x ∷ all) f h is = (h.0, open_more all f h.1 is)
 
 ends_more : (e : Option ConnectionEnd) (all : List Served) (f : Served) (rest : List ℕ)
-    → StayOpen all
-    → f.leaves ≡ e → EndsBy e (all ++ f ∷ []) rest
+    → StayOpen all → f.leaves ≡ e → EndsBy e (all ++ f ∷ []) rest
 ends_more None all f rest h is = open_more all f h is
 ends_more (Some e) all f rest h is =
     inl (all, f, record { parts = refl; open_before = h; ends = is })
@@ -201,8 +187,7 @@ frame_at k one new =
     record { number = k; one = one; count = new.frames; answer = new.pending; leaves = new.end }
 
 began_to : (home : Home) (k : ℕ) (came taken rest : List ℕ) (all : List Served) (one : Begun)
-    (old new : Talk)
-    → Holds home came taken all rest old → BeginsNext old new one.frame
+    (old new : Talk) → Holds home came taken all rest old → BeginsNext old new one.frame
     → Holds home came taken (all ++ frame_at k one new ∷ []) rest new
 unfolding frame_at
 began_to home k came taken rest all one old new h next =
@@ -217,9 +202,8 @@ began_to home k came taken rest all one old new h next =
         at = next.home ∙ h.served.at;
         begins =
             subst (λ z. AreBegun came z (flat_map spelling new.waiting ++ rest))
-            (sym (begun_more all f))
-            (one_more came rest (begun_of all) one old.waiting new.waiting next.next h.spelled
-            h.served.begins);
+            (sym (begun_more all f)) (one_more came rest (begun_of all) one old.waiting new.waiting
+            next.next h.spelled h.served.begins);
         answered = ap (λ z. z ++ new.pending) taken_all ∙ sym (answers_more all f);
         counted =
             let before = h.served.frames in
@@ -276,8 +260,7 @@ took home came taken more rest all old new h parts is =
       served = record {
         at = ap (λ (z : Talk). z.home) is ∙ h.served.at;
         begins =
-            subst
-            (λ (z : Talk). AreBegun came (begun_of all) (flat_map spelling z.waiting ++ rest))
+            subst (λ (z : Talk). AreBegun came (begun_of all) (flat_map spelling z.waiting ++ rest))
             (sym is) h.served.begins;
         answered = answered;
         counted = h.served.counted;
@@ -289,10 +272,8 @@ took home came taken more rest all old new h parts is =
 
 -- the frame that a turn begins, if it begins one
 frames_in : ℕ → Turn → Talk → List Served
-frames_in k (Came piece) new = []
 frames_in k (Began one) new = frame_at k one new ∷ []
-frames_in k Rested new = []
-frames_in k (Took bytes) new = []
+frames_in k _ new = []
 
 as_before : (home : Home) (came taken : List ℕ) (all : List Served) (talk : Talk)
     → HoldsSome home came taken all talk
@@ -303,10 +284,8 @@ as_before home came taken all talk h =
     (subst (λ z. HoldsSome home came taken z talk) (sym (append-nil all)) h))
 
 turn_holds : {V : Type 0} {way : Way V} (home : Home) (k : ℕ) (t : Turn) (a b : Place way)
-    (came taken : List ℕ) (all : List Served)
-    → HoldsSome home came taken all a.talk → Turns t a b
-    → HoldsSome home (came ++ came_in t) (taken ++ taken_in t)
-    (all ++ frames_in k t b.talk) b.talk
+    (came taken : List ℕ) (all : List Served) → HoldsSome home came taken all a.talk → Turns t a b
+    → HoldsSome home (came ++ came_in t) (taken ++ taken_in t) (all ++ frames_in k t b.talk) b.talk
 unfolding frames_in
 turn_holds home k (Came piece) a b came taken all h g =
     let is = waits_for home came taken h.0 all a.talk h.1 g.0 in
@@ -319,11 +298,9 @@ turn_holds home k (Began one) a b came taken all h g =
     (subst (λ z. HoldsSome home came z more b.talk) (sym (append-nil taken))
     (h.0, began_to home k came taken h.0 all one a.talk b.talk h.1 g.0))
 turn_holds home k Rested a b came taken all h (inl r, quiet) =
-    as_before home came taken all b.talk
-    (subst (λ z. HoldsSome home came taken all z) (sym r.1) h)
+    as_before home came taken all b.talk (subst (λ z. HoldsSome home came taken all z) (sym r.1) h)
 turn_holds home k Rested a b came taken all h (inr r, quiet) =
-    as_before home came taken all b.talk
-    (h.0, ran_out home came taken h.0 all a.talk b.talk h.1 r)
+    as_before home came taken all b.talk (h.0, ran_out home came taken h.0 all a.talk b.talk h.1 r)
 turn_holds home k (Took more) a b came taken all h g =
     subst (λ z. HoldsSome home z (taken ++ more) (all ++ []) b.talk) (sym (append-nil came))
     (subst (λ z. HoldsSome home came (taken ++ more) z b.talk) (sym (append-nil all))
@@ -332,11 +309,9 @@ turn_holds home k (Took more) a b came taken all h g =
 -- ---- the frames of all connections
 
 served_then : {V : Type 0} {way : Way V} (home : Home) (a m b : Point way) (fs : List Served)
-    (f : Served)
-    → AreServedInTurn home a fs m
+    (f : Served) → AreServedInTurn home a fs m
     → LeavesAt f.leaves home (sides m.seen (Some []) m.outside)
-    (sides b.seen (Some f.answer) b.outside) f.one f.count
-    → AreServedInTurn home a (fs ++ f ∷ []) b
+    (sides b.seen (Some f.answer) b.outside) f.one f.count → AreServedInTurn home a (fs ++ f ∷ []) b
 served_then {V} {way} home a m b [] f is h =
     subst (λ (z : Point way). AreServedInTurn home z (f ∷ []) b) (sym is) (b, h, refl)
 served_then home a m b (x ∷ fs) f h k =
@@ -350,29 +325,25 @@ point_as {V} {way} x y o n same is =
     ∙ ap (λ z. let p : Point way = record { seen = x; outside = z } in p) is
 
 quiet_then : {V : Type 0} {way : Way V} (home : Home) (start : Point way) (fs : List Served)
-    (k : ℕ) (a b : Connections way)
-    → AreServedInTurn home start fs (point_of a) → IsQuiet (place_of a k) (place_of b k)
-    → AreServedInTurn home start (fs ++ []) (point_of b)
+    (k : ℕ) (a b : Connections way) → AreServedInTurn home start fs (point_of a)
+    → IsQuiet (place_of a k) (place_of b k) → AreServedInTurn home start (fs ++ []) (point_of b)
 quiet_then {V} {way} home start fs k a b h quiet =
     subst (λ z. AreServedInTurn home start z (point_of b)) (sym (append-nil fs))
     (subst (λ (z : Point way). AreServedInTurn home start fs z)
     (sym (point_as a.seen b.seen a.outside b.outside quiet.seen quiet.outside)) h)
 
 turn_serves : {V : Type 0} {way : Way V} (home : Home) (start : Point way) (fs : List Served)
-    (k : ℕ) (t : Turn) (a b : Connections way)
-    → (a.talks k).home ≡ home → AreServedInTurn home start fs (point_of a)
-    → Turns t (place_of a k) (place_of b k)
+    (k : ℕ) (t : Turn) (a b : Connections way) → (a.talks k).home ≡ home
+    → AreServedInTurn home start fs (point_of a) → Turns t (place_of a k) (place_of b k)
     → AreServedInTurn home start (fs ++ frames_in k t (b.talks k)) (point_of b)
 unfolding frames_in frame_at
 turn_serves home start fs k (Came piece) a b same h g = quiet_then home start fs k a b h g.2
 turn_serves {V} {way} home start fs k (Began one) a b same h g =
     let to : Sides way = sides b.seen (Some (b.talks k).pending) b.outside in
-    let here =
-    subst (λ z. LeavesAt (b.talks k).end z (sides a.seen (Some (a.talks k).pending) a.outside) to
-    one (b.talks k).frames) same g.1 in
-    let free =
-    subst (λ (z : List ℕ). LeavesAt (b.talks k).end home (sides a.seen (Some z) a.outside) to one
-    (b.talks k).frames) g.0.free.taken here in
+    let here = subst (λ z. LeavesAt (b.talks k).end z
+    (sides a.seen (Some (a.talks k).pending) a.outside) to one (b.talks k).frames) same g.1 in
+    let free = subst (λ (z : List ℕ). LeavesAt (b.talks k).end home
+    (sides a.seen (Some z) a.outside) to one (b.talks k).frames) g.0.free.taken here in
     served_then home start (point_of a) (point_of b) fs (frame_at k one (b.talks k)) h free
 turn_serves home start fs k Rested a b same h g = quiet_then home start fs k a b h g.1
 turn_serves home start fs k (Took more) a b same h g = quiet_then home start fs k a b h g.2
@@ -496,8 +467,7 @@ other_next home start came taken earlier fs t a b k h g other =
 
 each_next : {V : Type 0} {way : Way V} (home : Home) (start : Point way) (came taken : ℕ → List ℕ)
     (earlier : ℕ → List Served) (fs : List Served) (t : TurnOf) (a b : Connections way) (k : ℕ)
-    (own : Bool)
-    → HoldsAll home start came taken earlier fs a → Goes t a b → eqb t.number k ≡ own
+    (own : Bool) → HoldsAll home start came taken earlier fs a → Goes t a b → eqb t.number k ≡ own
     → HoldsNext home came taken earlier fs t b own k
 each_next home start came taken earlier fs t a b k true h g is =
     subst (λ z. HoldsNext home came taken earlier fs t b true z) (eqb-true t.number k is)
@@ -524,13 +494,11 @@ all_next home start came taken earlier fs t a b h g =
           turn_serves home start fs t.number t.turn a b (h.each t.number).1.served.at h.chain
           g.turn;
       each =
-          λ k.
-          subst (λ z. HoldsSome home (came k ++ came_if (eqb t.number k) t.turn)
-          (taken k ++ taken_if (eqb t.number k) t.turn) z (b.talks k))
-          (append_assoc (earlier k) (served_of k fs)
+          λ k. subst (λ z. HoldsSome home (came k ++ came_if (eqb t.number k) t.turn)
+          (taken k ++ taken_if (eqb t.number k) t.turn) z (b.talks k)) (append_assoc (earlier k)
+          (served_of k fs)
           (served_if (eqb t.number k) (frames_in t.number t.turn (b.talks t.number)))
-          ∙ ap (λ z. earlier k ++ z)
-          (sym (served_then_more k fs more
+          ∙ ap (λ z. earlier k ++ z) (sym (served_then_more k fs more
           ∙ ap (λ z. served_of k fs ++ z) (served_in k t.number t.turn (b.talks t.number)))))
           (each_next home start came taken earlier fs t a b k (eqb t.number k) h g refl);
     }
@@ -591,11 +559,9 @@ begun_next : (k : ℕ) (fs : List Served) (t : TurnOf) (new : Talk)
     ≡ begun_of (served_of k fs) ++ begun_if (eqb t.number k) t.turn
 begun_next k fs t new =
     let more = frames_in t.number t.turn new in
-    ap begun_of (served_then_more k fs more)
-    ∙ begun_both (served_of k fs) (served_of k more)
+    ap begun_of (served_then_more k fs more) ∙ begun_both (served_of k fs) (served_of k more)
     ∙ ap (λ z. begun_of (served_of k fs) ++ begun_of z) (served_in k t.number t.turn new)
-    ∙ ap (λ z. begun_of (served_of k fs) ++ z)
-    (turn_begins (eqb t.number k) t.number t.turn new)
+    ∙ ap (λ z. begun_of (served_of k fs) ++ z) (turn_begins (eqb t.number k) t.number t.turn new)
 
 begun_all : (k : ℕ) (before : List Begun) (t : TurnOf) (ts : List TurnOf)
     → (before ++ begun_if (eqb t.number k) t.turn) ++ begun_in (turns_of k ts)
@@ -612,11 +578,10 @@ begun_all k before t ts = go (eqb t.number k)
 abbrev HoldsOn : {V : Type 0} → {way : Way V} → Home → Point way → (ℕ → List ℕ)
     → (ℕ → List ℕ) → (ℕ → List Served) → List Served → List TurnOf → Connections way → Type 0
 HoldsOn home start came taken earlier first ts b =
-    (fs : List Served) × AreServedInTurn home start fs (point_of b)
-    × ((k : ℕ) → HoldsSome home (came k ++ received (turns_of k ts))
-    (taken k ++ handed_out (turns_of k ts)) (earlier k ++ served_of k fs) (b.talks k))
-    × ((k : ℕ) → begun_of (served_of k fs)
-    ≡ begun_of (served_of k first) ++ begun_in (turns_of k ts))
+    (fs : List Served) × AreServedInTurn home start fs (point_of b) × ((k : ℕ)
+    → HoldsSome home (came k ++ received (turns_of k ts)) (taken k ++ handed_out (turns_of k ts))
+    (earlier k ++ served_of k fs) (b.talks k)) × ((k : ℕ)
+    → begun_of (served_of k fs) ≡ begun_of (served_of k first) ++ begun_in (turns_of k ts))
 
 all_hold : {V : Type 0} {way : Way V} (home : Home) (start : Point way) (came taken : ℕ → List ℕ)
     (earlier : ℕ → List Served) (fs : List Served) (ts : List TurnOf) (a b : Connections way)
@@ -627,10 +592,9 @@ all_hold {V} {way} home start came taken earlier fs [] a b h is =
       fs,
       h.chain,
       λ k.
-          subst
-          (λ z. HoldsSome home z (taken k ++ []) (earlier k ++ served_of k fs) (a.talks k))
-          (sym (append-nil (came k)))
-          (subst (λ z. HoldsSome home (came k) z (earlier k ++ served_of k fs) (a.talks k))
+          subst (λ z. HoldsSome home z (taken k ++ []) (earlier k ++ served_of k fs) (a.talks k))
+          (sym (append-nil (came k))) (subst
+          (λ z. HoldsSome home (came k) z (earlier k ++ served_of k fs) (a.talks k))
           (sym (append-nil (taken k))) (h.each k)),
       λ k. sym (append-nil (begun_of (served_of k fs))),
     )
@@ -659,12 +623,10 @@ all_go_on : {V : Type 0} {way : Way V} (home : Home) (came taken : ℕ → List 
     → ((k : ℕ) → HoldsSome home (came k) (taken k) (earlier k) (a.talks k)) → FollowEach a ts b
     → HoldsOn home (point_of a) came taken earlier [] ts b
 all_go_on home came taken earlier ts a b h g =
-    all_hold home (point_of a) came taken earlier [] ts a b
-    (record {
+    all_hold home (point_of a) came taken earlier [] ts a b (record {
       chain = refl;
       each =
-          λ k.
-          subst (λ z. HoldsSome home (came k) (taken k) z (a.talks k))
+          λ k. subst (λ z. HoldsSome home (came k) (taken k) z (a.talks k))
           (sym (append-nil (earlier k))) (h k);
     }) g
 
@@ -678,8 +640,7 @@ goes_on home came taken earlier ts a b h g =
 
 pub each_is_served : {V : Type 0} (d : DeskOf V) → EachIsServed d
 each_is_served d home wire turns a b new h =
-    let all =
-    all_go_on home (λ k. []) (λ k. []) (λ k. []) turns a b
+    let all = all_go_on home (λ k. []) (λ k. []) (λ k. []) turns a b
     (λ k. at_first home wire (a.talks k) (new k)) h in (
       all.0,
       all.1,

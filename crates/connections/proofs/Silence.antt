@@ -1,28 +1,21 @@
 -- A connection from which no byte came.
 use Rattle.std.proofs.Common.{◌≡◌, ◌≢◌, inl, inr, refl, sym, ap, subst, ◌∙◌, ℕ, List, [], ◌∷◌, ◌++◌}
 use Rattle.std.proofs.Common.{Option, None, Some, Bool, true, false, cond, eqb}
-use Rattle.std.proofs.lemmas.Bool.{eqb-true, eqb-false, ne_eqb}
-use Rattle.std.proofs.lemmas.List.{append_assoc}
+use Rattle.std.proofs.lemmas.{Bool.eqb-true, Bool.eqb-false, Bool.ne_eqb, List.append_assoc}
 use Rattle.std.specs.List.{flat_map, AllByRecursion}
 use Rattle.answers.specs.declared.desk.Desk.{Ghosts as DeskOf}
 use Rattle.store.specs.declared.home.Home.{Home}
-use Rattle.wire.specs.declared.frame.Frame.{Frame}
-use Rattle.wire.specs.declared.values.Version.{Version}
-use Rattle.wire.specs.Ranges.{IsFrame}
-use Rattle.wire.specs.Spelling.{spelling}
-use Rattle.wire.specs.Stream.{Begins, Breaks, Front, IsBegun, Reader, Waits, front, holding, keeps}
-use Rattle.wire.proofs.Streams.{front_again}
-use Rattle.serving.specs.declared.ends.ConnectionEnd.{ConnectionEnd}
-use Rattle.serving.specs.declared.ends.ConnectionEnd.TheVariants as end
-use Rattle.serving.specs.Making.{Way}
+use Rattle.wire.specs.declared.{frame.Frame.Frame, values.Version.Version}
+use Rattle.wire.{specs.Ranges.IsFrame, specs.Spelling.spelling, proofs.Streams.front_again}
+use Rattle.wire.specs.Stream.{Begins, Breaks, IsBegun, Reader, Waits, front, holding, keeps}
+use Rattle.serving.specs.{declared.ends.ConnectionEnd.ConnectionEnd, Making.Way}
 use Rattle.serving.specs.Turns.{Talk, OnlyReads, ReadsTo, broken_by, new_talk}
 use Rattle.serving.specs.TurnLaw.{Came, Began, IsQuiet, Place, Rested, Took, Turn, Turns, came_in}
 use Rattle.serving.specs.TurnLaw.{handed_out, received, taken_in}
-use Rattle.serving.proofs.Pieces.{front_none}
-use Rattle.serving.proofs.TurnLaws.{keeps_nothing, not_begun}
-use Rattle.connections.specs.Connections.{Connections, FollowEach, Goes, IsSameBut}
-use Rattle.connections.specs.Connections.{SilenceChangesNothing, TurnOf, place_of, turns_of}
-use Rattle.connections.specs.Connections.{without}
+use Rattle.serving.proofs.{Pieces.front_none, TurnLaws.keeps_nothing, TurnLaws.not_begun}
+use Rattle.connections.specs.Connections.{Connections, FollowEach, IsSameBut, SilenceChangesNothing}
+use Rattle.connections.specs.Connections.{Goes, TurnOf, place_of, turns_of, without}
+use Rattle.serving.specs.declared.ends.ConnectionEnd.TheVariants as end
 
 -- nothing came, nothing is to be sent, and it is open
 record IsIdle (talk : Talk) : Type 0 where
@@ -56,9 +49,6 @@ none_waits (f ∷ fs) rest each is =
     let begins : Waits ≡ Begins f more
     = sym front_none ∙ ap front (sym none) ∙ front_again f more each.0 in
     absurd cc
-
-waits_not : (at : Front) → Waits ≡ at → IsBegun at → ⊥
-waits_not at is h = subst IsBegun (sym is) h
 
 -- no byte came: it is idle still
 idle_came : (e : Option ConnectionEnd) (piece : List ℕ) (old new : Talk)
@@ -205,17 +195,14 @@ others_next : {V : Type 0} {way : Way V} (k : ℕ) (t : TurnOf) (ts : List TurnO
     → eqb t.number k ≡ own → IsIdle (a.talks k) → IsSameBut k a c
     → received (cond own (t.turn ∷ turns_of k ts) (turns_of k ts)) ≡ []
     → Goes t a m → FollowEach m ts b
-    → (handed_out (cond own (t.turn ∷ turns_of k ts) (turns_of k ts)) ≡ [])
-    × ((d : Connections way)
+    → (handed_out (cond own (t.turn ∷ turns_of k ts) (turns_of k ts)) ≡ []) × ((d : Connections way)
     × FollowEach c (cond own (without k ts) (t ∷ without k ts)) d × IsSameBut k b d)
 others_next {V} {way} k t ts a m b c true next is idle h silent g more =
     let it = eqb-true t.number k is in
-    let turn =
-    idle_turn t.turn (place_of a t.number) (place_of m t.number)
+    let turn = idle_turn t.turn (place_of a t.number) (place_of m t.number)
     (subst (λ z. IsIdle (a.talks z)) (sym it) idle)
     (first_nothing (came_in t.turn) (received (turns_of k ts)) silent) g.turn in
-    let rest =
-    next m c (subst (λ z. IsIdle (m.talks z)) it turn.idle)
+    let rest = next m c (subst (λ z. IsIdle (m.talks z)) it turn.idle)
     (same_but k t a m c it g turn.quiet h)
     (second_nothing (came_in t.turn) (received (turns_of k ts)) silent) more in
     (ap (λ z. z ++ handed_out (turns_of k ts)) turn.handed ∙ rest.0, rest.1)

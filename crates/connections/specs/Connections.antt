@@ -1,21 +1,16 @@
 -- Many connections of one desk, each served by turns, in whatever order the turns come (the
 -- project's own).
 use Rattle.std.specs.Prelude.{◌≡◌, ◌≢◌, ◌⊎◌, ◌≤◌, ℕ, ◌+◌, ◌==◌, if◌then◌else◌, List, [], ◌∷◌, ◌++◌}
-use Rattle.std.specs.Prelude.{length, Option, None, Some}
-use Rattle.std.specs.List.{flat_map}
-use Rattle.answers.specs.declared.desk.Desk.{Ghosts as DeskOf}
-use Rattle.answers.specs.Seen.{Seen}
+use Rattle.std.specs.{Prelude.length, Prelude.Option, Prelude.None, Prelude.Some, List.flat_map}
+use Rattle.answers.specs.{declared.desk.Desk.Ghosts as DeskOf, Seen.Seen}
 use Rattle.store.specs.declared.home.Home.{Home}
-use Rattle.wire.specs.declared.values.Version.{Version}
-use Rattle.wire.specs.Spelling.{spelling}
+use Rattle.wire.specs.{declared.values.Version.Version, Spelling.spelling}
 use Rattle.wire.specs.Stream.{Breaks, front, IsOfStream}
-use Rattle.serving.specs.declared.ends.ConnectionEnd.{ConnectionEnd}
-use Rattle.serving.specs.declared.ends.ConnectionEnd.TheVariants as end
-use Rattle.serving.specs.Connection.{AreBegun, Begun, sides}
-use Rattle.serving.specs.Making.{Makes, Outside, Way, speaking}
-use Rattle.serving.specs.Serving.{Act}
-use Rattle.serving.specs.Turns.{LeavesAt, Talk, new_talk}
+use Rattle.serving.specs.{declared.ends.ConnectionEnd.ConnectionEnd, Serving.Act, Turns.LeavesAt}
+use Rattle.serving.specs.{Connection.AreBegun, Connection.Begun, Connection.sides, Turns.new_talk}
+use Rattle.serving.specs.{Making.Makes, Making.Outside, Making.Way, Making.speaking, Turns.Talk}
 use Rattle.serving.specs.TurnLaw.{Place, Turn, Turns, begun_in, handed_out, received}
+use Rattle.serving.specs.declared.ends.ConnectionEnd.TheVariants as end
 
 -- the connections of a desk by their numbers, what is seen of the node that serves them all, and
 -- what is there beside
@@ -74,10 +69,8 @@ abbrev pub AreServedInTurn : {V : Type 0} → {way : Way V} → Home → Point w
     → Point way → Type 0
 AreServedInTurn home a [] b = a ≡ b
 AreServedInTurn {V} {way} home a (f ∷ fs) b =
-    (m : Point way)
-    × LeavesAt f.leaves home (sides a.seen (Some []) a.outside)
-    (sides m.seen (Some f.answer) m.outside) f.one f.count
-    × AreServedInTurn home m fs b
+    (m : Point way) × LeavesAt f.leaves home (sides a.seen (Some []) a.outside)
+    (sides m.seen (Some f.answer) m.outside) f.one f.count × AreServedInTurn home m fs b
 
 -- of the frames those of one connection
 abbrev pub served_of : ℕ → List Served → List Served
@@ -114,13 +107,7 @@ pub record LastEnds (why : ConnectionEnd) (all earlier : List Served) (last : Se
 abbrev pub EndsAfter : ConnectionEnd → List ℕ → Type 0
 EndsAfter (end.Fault e) rest = (front rest ≡ Breaks e) × IsOfStream e
 EndsAfter end.NoMemory rest = Unit {0}
-EndsAfter end.Stopped rest = ⊥
-EndsAfter end.Down rest = ⊥
-EndsAfter end.Frames rest = ⊥
-EndsAfter end.End rest = ⊥
-EndsAfter end.Reads rest = ⊥
-EndsAfter end.Read rest = ⊥
-EndsAfter end.Write rest = ⊥
+EndsAfter _ rest = ⊥
 
 -- the connection is open, or ended by its cause
 abbrev pub EndsBy : Option ConnectionEnd → List Served → List ℕ → Type 0
@@ -156,12 +143,10 @@ EachIsServed d =
     (home : Home) (wire : Version) (turns : List TurnOf)
     (a b : Connections (speaking d.handles d.settles wire))
     → ((k : ℕ) → a.talks k ≡ new_talk home wire) → FollowEach a turns b
-    → (frames : List Served)
-    × AreServedInTurn home (point_of a) frames (point_of b)
-    × MakesSome home.hall (point_of a) (point_of b)
-    × ((k : ℕ) → (rest : List ℕ)
-    × IsServedOf home (received (turns_of k turns)) (handed_out (turns_of k turns))
-    (served_of k frames) rest (b.talks k)
+    → (frames : List Served) × AreServedInTurn home (point_of a) frames (point_of b) × MakesSome
+    home.hall (point_of a) (point_of b) × ((k : ℕ)
+    → (rest : List ℕ) × IsServedOf home (received (turns_of k turns))
+    (handed_out (turns_of k turns)) (served_of k frames) rest (b.talks k)
     × (begun_of (served_of k frames) ≡ begun_in (turns_of k turns)))
 
 -- the turns of the other connections
@@ -183,6 +168,5 @@ SilenceChangesNothing d =
     (a b : Connections (speaking d.handles d.settles wire)) (k : ℕ)
     → ((j : ℕ) → a.talks j ≡ new_talk home wire) → FollowEach a turns b
     → received (turns_of k turns) ≡ []
-    → (handed_out (turns_of k turns) ≡ [])
-    × ((c : Connections (speaking d.handles d.settles wire)) × FollowEach a (without k turns) c
-    × IsSameBut k b c)
+    → (handed_out (turns_of k turns) ≡ []) × ((c : Connections (speaking d.handles d.settles wire))
+    × FollowEach a (without k turns) c × IsSameBut k b c)

@@ -1,18 +1,14 @@
 -- Turns one after the other, on any arrangement: each side computes to the same list of reads.
 use Rattle.std.proofs.Common.{◌≡◌, List, map, get_or, refl, sym, ap, ◌∙◌}
-use Rattle.std.proofs.lemmas.List.FromFn.{fill_by_all}
-use Rattle.std.specs.List.{range_with_len}
-use Rattle.cube.specs.declared.moves.Side.{Side}
+use Rattle.std.{proofs.lemmas.List.FromFn.fill_by_all, specs.List.range_with_len}
+use Rattle.cube.specs.declared.moves.{Side.Side, Kind.Kind, Quarter.Quarter, Colour.Colour}
 use Rattle.cube.specs.declared.moves.Side.TheVariants.{U, R, F, D, L, B}
 use Rattle.cube.specs.declared.moves.Axis.TheVariants.{X, Y, Z}
-use Rattle.cube.specs.declared.moves.Kind.{Kind}
 use Rattle.cube.specs.declared.moves.Kind.TheVariants.{Face, Block, Turn}
-use Rattle.cube.specs.declared.moves.Quarter.{Quarter}
 use Rattle.cube.specs.declared.moves.Quarter.TheVariants.{Clockwise, Half, Anticlockwise}
-use Rattle.cube.specs.declared.moves.Colour.{Colour}
-use Rattle.cube.specs.declared.moves.Colour.TheVariants as colours
 use Rattle.cube.specs.Stickers.{opposite}
 use Rattle.cube.specs.Turns.{turned, rotation, reverse, Undoes, IsNoneFourTimes}
+use Rattle.cube.specs.declared.moves.Colour.TheVariants as colours
 
 abbrev pub once : Kind → List Colour → List Colour
 once kind a = turned (record { kind = kind; quarter = Clockwise }) a
@@ -63,11 +59,7 @@ pub block_turned : (side : Side) (a : List Colour)
     → turned (rotation side) (once (Face (opposite side)) a) ≡ once (Block side) a
 unfolding turned
 block_turned U a = refl
-block_turned R a = refl
-block_turned F a = refl
-block_turned D a = refl
-block_turned L a = refl
-block_turned B a = refl
+block_turned _ a = refl
 
 -- four quarter turns read every number of an arrangement at its own place
 four_read : (kind : Kind) (a : List Colour) → once kind (once kind (once kind (once kind a)))

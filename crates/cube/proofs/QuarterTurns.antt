@@ -2,13 +2,11 @@
 use Rattle.std.proofs.Common.{◌≡◌, refl}
 use Rattle.cube.specs.declared.moves.Side.TheVariants.{U, R, F, D, L, B}
 use Rattle.cube.specs.declared.moves.Axis.TheVariants.{X, Y, Z}
-use Rattle.cube.specs.declared.moves.Kind.{Kind}
+use Rattle.cube.specs.declared.moves.{Kind.Kind, Quarter.TheVariants.Clockwise, Colour.Colour}
 use Rattle.cube.specs.declared.moves.Kind.TheVariants.{Face, Turn}
-use Rattle.cube.specs.declared.moves.Quarter.TheVariants.{Clockwise}
-use Rattle.cube.specs.declared.moves.Colour.{Colour}
-use Rattle.cube.specs.declared.moves.Colour.TheVariants as colours
 use Rattle.cube.specs.model.Pieces.{Shown, arranged}
 use Rattle.cube.specs.Turns.{turned, opposite_colour}
+use Rattle.cube.specs.declared.moves.Colour.TheVariants as colours
 
 abbrev pub Turns : Kind → Shown → Shown → Type 0
 Turns kind s t = arranged t ≡ turned (record { kind = kind; quarter = Clockwise }) (arranged s)
@@ -180,8 +178,4 @@ turn_Z s = refl
 
 pub opposite_twice : (colour : Colour) → opposite_colour (opposite_colour colour) ≡ colour
 opposite_twice colours.U = refl
-opposite_twice colours.R = refl
-opposite_twice colours.F = refl
-opposite_twice colours.D = refl
-opposite_twice colours.L = refl
-opposite_twice colours.B = refl
+opposite_twice _ = refl

@@ -3,27 +3,21 @@
 use Rattle.std.proofs.Common.{◌≡◌, ℕ, ◌+◌, ◌*◌, Bool, true, false, cond, ◌&&◌, eqb, nat_lt, List}
 use Rattle.std.proofs.Common.{[], ◌∷◌, map, length, get_or, refl, sym, ap, ◌∙◌, subst}
 use Rattle.std.proofs.lemmas.Bool.{eqb-true, and_parts, ltb-true}
-use Rattle.std.proofs.lemmas.List.{get_or-map}
-use Rattle.std.proofs.lemmas.List.FromFn.{fill_by_all}
-use Rattle.std.proofs.lemmas.List.Sums.{AllPass-from_list_all}
+use Rattle.std.proofs.lemmas.List.{get_or-map, FromFn.fill_by_all, Sums.AllPass-from_list_all}
 use Rattle.std.proofs.lemmas.List.Sorted.{IsPermutation-refl, IsPermutation-cons}
 use Rattle.std.proofs.lemmas.List.Sorted.{IsPermutation-trans, IsPermutation-map}
 use Rattle.std.proofs.lemmas.List.Sorted.{IsPermutation-middle, sum_by-IsPermutation}
-use Rattle.std.specs.List.{range_with_len, list_all}
-use Rattle.std.specs.List.Sorted.{IsPermutation}
+use Rattle.std.specs.List.{range_with_len, list_all, Sorted.IsPermutation}
 use Rattle.cube.specs.declared.moves.Side.TheVariants.{U, R, F, D, L, B}
 use Rattle.cube.specs.declared.moves.Axis.TheVariants.{X, Y, Z}
-use Rattle.cube.specs.declared.moves.Kind.{Kind}
+use Rattle.cube.specs.declared.moves.{Kind.Kind, Quarter.Quarter, Move.Move, Colour.Colour}
 use Rattle.cube.specs.declared.moves.Kind.TheVariants.{Face, Block, Turn}
-use Rattle.cube.specs.declared.moves.Quarter.{Quarter}
 use Rattle.cube.specs.declared.moves.Quarter.TheVariants.{Clockwise, Half, Anticlockwise}
-use Rattle.cube.specs.declared.moves.Move.{Move}
-use Rattle.cube.specs.declared.moves.Colour.{Colour}
-use Rattle.cube.specs.declared.moves.Colour.TheVariants as colours
 use Rattle.cube.specs.Stickers.{Sticker, Minus, stickers, number, free, rank, sticker_on}
 use Rattle.cube.specs.Turns.{turned, moved, inverse, CarriesStickers, code, count_of}
 use Rattle.cube.specs.Turns.{first_arrangement, HasNineOfEach}
 use Rattle.cube.proofs.Space.{cell, sticker_at, at_number, on_side, number_below}
+use Rattle.cube.specs.declared.moves.Colour.TheVariants as colours
 
 -- is a number in a list, and the list without it
 abbrev has : ℕ → List ℕ → Bool

@@ -2,16 +2,13 @@
 -- first.
 use Rattle.std.proofs.Common.{◌≡◌, ℕ, ◌+◌, ◌*◌, ◌<◌, ◌/◌, List, get_or, sym, ap, ◌∙◌, arith}
 use Rattle.std.proofs.lemmas.List.{get_or-map}
-use Rattle.cube.specs.declared.moves.Side.{Side}
-use Rattle.cube.specs.declared.moves.Side.TheVariants.{U}
-use Rattle.cube.specs.declared.moves.Colour.{Colour}
-use Rattle.cube.specs.declared.moves.Colour.TheVariants as colours
+use Rattle.cube.specs.declared.moves.{Side.Side, Side.TheVariants.U, Colour.Colour}
 use Rattle.cube.specs.Stickers.{Minus, Sticker, StandsOn, IsSticker, sticker_on, stickers, rank}
 use Rattle.cube.specs.Stickers.{side_of, free}
 use Rattle.cube.specs.Turns.{colour_at, colour_of, first_arrangement, IsSolved}
-use Rattle.cube.proofs.Space.{cell, on_side, number-sticker_on, IsSticker-sticker_on}
-use Rattle.cube.proofs.Space.{normal-sticker_on, side_of-outward, decode, number_below, first_on}
-use Rattle.cube.proofs.Space.{at_number}
+use Rattle.cube.proofs.Space.{cell, on_side, side_of-outward, decode, number_below, first_on}
+use Rattle.cube.proofs.Space.{number-sticker_on, IsSticker-sticker_on, normal-sticker_on, at_number}
+use Rattle.cube.specs.declared.moves.Colour.TheVariants as colours
 
 abbrev pub OneColourASide : List Colour → Type 0
 OneColourASide a = (n : ℕ) → n < 54 → get_or a n colours.U ≡ get_or a (n / 9 * 9) colours.U

@@ -1,15 +1,12 @@
 -- Each sticker has its number, and each number below 54 is that of a sticker.
 use Rattle.std.proofs.Common.{◌≡◌, ℕ, ◌+◌, ◌*◌, ◌<◌, ◌/◌, ◌%◌, zero, suc, get_or, refl, sym, ap}
 use Rattle.std.proofs.Common.{◌∙◌, subst, arith, lit<, slice_get, Some}
-use Rattle.cube.specs.declared.moves.Side.{Side}
+use Rattle.cube.specs.{declared.moves.Side.Side, Stickers.number}
 use Rattle.cube.specs.declared.moves.Side.TheVariants.{U, R, F, D, L, B}
 use Rattle.cube.specs.Stickers.{Coordinate, Minus, Zero, Plus, negative, Sticker, outward, StandsOn}
 use Rattle.cube.specs.Stickers.{IsSticker, sticker_on, stickers, rank, offset, side_of, free}
-use Rattle.cube.specs.Stickers.{number}
 use Rattle.std.proofs.lemmas.Nat.{div-mul-add, div_below, div-add-mod'}
-use Rattle.std.proofs.Math.Nat.{mod-lt}
-use Rattle.std.proofs.lemmas.Option.{slice_get-get_or}
-use Rattle.std.proofs.lemmas.List.{get_or_default}
+use Rattle.std.proofs.{Math.Nat.mod-lt, lemmas.Option.slice_get-get_or, lemmas.List.get_or_default}
 
 by_coordinates : (P : Coordinate → Coordinate → Type 0) → P Minus Minus → P Minus Zero
     → P Minus Plus → P Zero Minus → P Zero Zero → P Zero Plus → P Plus Minus → P Plus Zero
@@ -40,11 +37,7 @@ sticker_at n = get_or stickers n (sticker_on U Minus Minus)
 pub number-sticker_on : (side : Side) (a b : Coordinate) → number (sticker_on side a b)
     ≡ rank side * 9 + cell a b
 number-sticker_on U a b = refl
-number-sticker_on R a b = refl
-number-sticker_on F a b = refl
-number-sticker_on D a b = refl
-number-sticker_on L a b = refl
-number-sticker_on B a b = refl
+number-sticker_on _ a b = refl
 
 pub IsSticker-sticker_on : (side : Side) (a b : Coordinate) → IsSticker (sticker_on side a b)
 IsSticker-sticker_on U a b = (U, record { points = refl; touches = refl })
@@ -57,11 +50,7 @@ IsSticker-sticker_on B a b = (B, record { points = refl; touches = refl })
 pub normal-sticker_on : (side : Side) (a b : Coordinate)
     → (sticker_on side a b).normal ≡ outward side
 normal-sticker_on U a b = refl
-normal-sticker_on R a b = refl
-normal-sticker_on F a b = refl
-normal-sticker_on D a b = refl
-normal-sticker_on L a b = refl
-normal-sticker_on B a b = refl
+normal-sticker_on _ a b = refl
 
 AtNumber : Side → Coordinate → Coordinate → Type 0
 AtNumber side a b = sticker_at (rank side * 9 + cell a b) ≡ sticker_on side a b
@@ -84,20 +73,14 @@ negative-plus Plus h = cc
 -- a sticker on a side is the one that the side has at its free coordinates
 pub on_side : (side : Side) (s : Sticker) → StandsOn side s
     → s ≡ sticker_on side (free side s.place).0 (free side s.place).1
-on_side U s h = rw (h.points, h.touches) refl
-on_side R s h = rw (h.points, h.touches) refl
-on_side F s h = rw (h.points, h.touches) refl
 on_side D s h = rw (h.points, negative-plus _ h.touches) refl
 on_side L s h = rw (h.points, negative-plus _ h.touches) refl
 on_side B s h = rw (h.points, negative-plus _ h.touches) refl
+on_side _ s h = rw (h.points, h.touches) refl
 
 pub side_of-outward : (side : Side) → side_of (outward side) ≡ side
 side_of-outward U = refl
-side_of-outward R = refl
-side_of-outward F = refl
-side_of-outward D = refl
-side_of-outward L = refl
-side_of-outward B = refl
+side_of-outward _ = refl
 
 -- the side, and the coordinates there, of a number below 54
 side_at_rank : (r : ℕ) → r < 6 → (side : Side) × (r ≡ rank side)
@@ -134,11 +117,7 @@ decode n h =
 
 pub rank_below : (side : Side) → rank side < 6
 rank_below U = lit< tt
-rank_below R = lit< tt
-rank_below F = lit< tt
-rank_below D = lit< tt
-rank_below L = lit< tt
-rank_below B = lit< tt
+rank_below _ = lit< tt
 
 pub number_below : (side : Side) (a b : Coordinate) → rank side * 9 + cell a b < 54
 number_below side a b = omega (arith, rank_below side, cell_below a b)

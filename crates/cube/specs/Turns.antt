@@ -3,19 +3,15 @@
 -- own).
 use Rattle.std.specs.Prelude.{◌≡◌, ◌==◌, ℕ, List, [], ◌∷◌, length, map, slice_index_or, Bool, true}
 use Rattle.std.specs.Prelude.{false, if◌then◌else◌, count_by}
-use Rattle.cube.specs.declared.moves.Side.{Side}
+use Rattle.cube.specs.declared.moves.{Side.Side, Axis.Axis, Kind.Kind, Quarter.Quarter, Move.Move}
 use Rattle.cube.specs.declared.moves.Side.TheVariants.{U, R, F, D, L, B}
-use Rattle.cube.specs.declared.moves.Axis.{Axis}
 use Rattle.cube.specs.declared.moves.Axis.TheVariants.{X, Y, Z}
-use Rattle.cube.specs.declared.moves.Kind.{Kind}
 use Rattle.cube.specs.declared.moves.Kind.TheVariants.{Face, Block, Turn}
-use Rattle.cube.specs.declared.moves.Quarter.{Quarter}
 use Rattle.cube.specs.declared.moves.Quarter.TheVariants.{Clockwise, Half, Anticlockwise}
-use Rattle.cube.specs.declared.moves.Move.{Move}
 use Rattle.cube.specs.declared.moves.Colour.{Colour}
-use Rattle.cube.specs.declared.moves.Colour.TheVariants as colours
 use Rattle.cube.specs.Stickers.{Coordinate, Minus, Zero, Plus, negative, Vector, Sticker, along}
 use Rattle.cube.specs.Stickers.{stickers, number, IsSticker, side_of}
+use Rattle.cube.specs.declared.moves.Colour.TheVariants as colours
 
 -- the quarter turn of space in the direction of a side, clockwise as seen from outside
 abbrev pub rotated : Side → Vector → Vector

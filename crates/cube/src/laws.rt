@@ -2,8 +2,7 @@
 
 ghost use Rattle.std.specs.Prelude.{◌≡◌, All, length, slice_get, Some};
 ghost use Rattle.cube.specs.Stickers.{Sticker, IsSticker, stickers, number};
-ghost use Rattle.cube.specs.declared.moves.Kind.{Kind};
-ghost use Rattle.cube.specs.Turns.{IsNoneFourTimes};
+ghost use Rattle.cube.specs.{declared.moves.Kind.Kind, Turns.IsNoneFourTimes};
 
 /// There are 54 stickers, and each is in their list at its number.
 pub fn fifty_four_stickers()

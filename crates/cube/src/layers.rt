@@ -2,9 +2,8 @@
 //! order come from, and of how they are twisted and flipped on the way.
 
 ghost use Rattle.std.specs.Prelude.{◌≡◌};
-ghost use Rattle.cube.specs.model.Pieces.{colours_of};
+ghost use Rattle.cube.specs.{model.Pieces.colours_of, Turns.rotation};
 ghost use Rattle.cube.specs.Turns.{turned as turned_by, quarter_turned as quarter_turned_by};
-ghost use Rattle.cube.specs.Turns.{rotation};
 
 use crate::moves::{Axis, Kind, Move, Quarter, Side};
 use crate::pieces::{Facing, Pieces};

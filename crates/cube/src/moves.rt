@@ -1,8 +1,7 @@
 //! Moves of the cube, and the sides, axes and colours that they are said by.
 
 ghost use Rattle.std.specs.Prelude.{◌≡◌};
-ghost use Rattle.cube.specs.Stickers.{opposite};
-ghost use Rattle.cube.specs.Turns.{inverse, Undoes, opposite_colour};
+ghost use Rattle.cube.specs.{Stickers.opposite, Turns.inverse, Turns.Undoes, Turns.opposite_colour};
 
 /// A side of the cube as it is held: up, right, front, down, left and back.
 #[derive(Clone, Copy, PartialEq, Eq, Debug)]

@@ -1,19 +1,17 @@
 -- How tasks end at a fault.
 use Rattle.std.proofs.Common.{◌≡◌, ℕ, List, Option, arith}
 use Rattle.desk.specs.Statuses.{PrintsAtMost}
-use Rattle.exports.specs.Statuses.{export_status, log_status, results_status}
-use Rattle.exports.specs.declared.fault.ExportsFault.{ExportsFault}
-use Rattle.exports.specs.declared.fault.ExportsFault.TheVariants as exports
-use Rattle.exports.specs.declared.fault.ResultsFault.{ResultsFault}
-use Rattle.exports.specs.declared.fault.ResultsFault.TheVariants as results
-use Rattle.exports.specs.declared.logs.LogFault.{LogFault as ExportsLogFault}
-use Rattle.exports.specs.declared.logs.LogFault.TheVariants as log
-use Rattle.exports.specs.imports.Printing.{status_of as status_of_import}
-use Rattle.exports.specs.declared.imports.fault.ImportsFault.{ImportsFault}
-use Rattle.exports.specs.declared.imports.fault.ImportsFault.TheVariants as imported
+use Rattle.exports.specs.{Statuses.export_status, imports.Printing.status_of as status_of_import}
+use Rattle.exports.specs.{Statuses.log_status, declared.logs.LogFault.LogFault as ExportsLogFault}
+use Rattle.exports.specs.{Statuses.results_status, declared.imports.fault.ImportsFault.ImportsFault}
+use Rattle.exports.specs.declared.fault.{ExportsFault.ExportsFault, ResultsFault.ResultsFault}
 use Rattle.sqlite.specs.Recovery.{Image}
 use Rattle.desk_file.specs.stored_log.StoredLogs.{FailsLog, PrintsLogPart}
 use Rattle.desk_file.specs.declared.stored_log.fault.StoredLogFault.{StoredLogFault}
+use Rattle.exports.specs.declared.fault.ExportsFault.TheVariants as exports
+use Rattle.exports.specs.declared.fault.ResultsFault.TheVariants as results
+use Rattle.exports.specs.declared.logs.LogFault.TheVariants as log
+use Rattle.exports.specs.declared.imports.fault.ImportsFault.TheVariants as imported
 use Rattle.desk_file.specs.declared.stored_log.fault.StoredLogFault.TheVariants as stored
 use Rattle.wcif.specs.declared.file.FileFault.TheVariants as file
 use Rattle.wcif_results.specs.declared.exporting.ExportFault.TheVariants as export
@@ -28,8 +26,7 @@ prints_at_most stored.Write IsHonest files old new fails part = part
 prints_at_most stored.NoMemory IsHonest files old new fails part = part
 
 -- no fault ends with status 0
-pub import_not_zero : (f : ImportsFault) (status : ℕ) → status ≡ status_of_import f → status ≡ 0
-    → ⊥
+pub import_not_zero : (f : ImportsFault) (status : ℕ) → status ≡ status_of_import f → status ≡ 0 → ⊥
 import_not_zero imported.Read status is zero = omega (arith, is, zero)
 import_not_zero (imported.File file.TooLong) status is zero = omega (arith, is, zero)
 import_not_zero (imported.File (file.NotJson e)) status is zero = omega (arith, is, zero)
@@ -41,17 +38,14 @@ import_not_zero imported.NoMemory status is zero = omega (arith, is, zero)
 
 log_not_zero : (f : ExportsLogFault) (status : ℕ) → status ≡ log_status f → status ≡ 0 → ⊥
 log_not_zero log.TooLong status is zero = omega (arith, is, zero)
-log_not_zero log.CutOff status is zero = omega (arith, is, zero)
-log_not_zero log.Read status is zero = omega (arith, is, zero)
-log_not_zero log.NoMemory status is zero = omega (arith, is, zero)
+log_not_zero _ status is zero = omega (arith, is, zero)
 
 pub export_not_zero : (f : ExportsFault) (status : ℕ) → status ≡ export_status f → status ≡ 0 → ⊥
 export_not_zero exports.ReadFile status is zero = omega (arith, is, zero)
 export_not_zero (exports.Log f) status is zero = log_not_zero f status is zero
 export_not_zero exports.NoRound status is zero = omega (arith, is, zero)
 export_not_zero (exports.File export.TooLong) status is zero = omega (arith, is, zero)
-export_not_zero (exports.File (export.NotJson line column)) status is zero =
-    omega (arith, is, zero)
+export_not_zero (exports.File (export.NotJson line column)) status is zero = omega (arith, is, zero)
 export_not_zero (exports.File export.TooDeep) status is zero = omega (arith, is, zero)
 export_not_zero (exports.File (export.Refused found)) status is zero = omega (arith, is, zero)
 export_not_zero (exports.File export.NoMemory) status is zero = omega (arith, is, zero)
@@ -59,8 +53,7 @@ export_not_zero (exports.Running notes) status is zero = omega (arith, is, zero)
 export_not_zero exports.Write status is zero = omega (arith, is, zero)
 export_not_zero exports.NoMemory status is zero = omega (arith, is, zero)
 
-pub results_not_zero : (f : ResultsFault) (status : ℕ) → status ≡ results_status f → status ≡ 0
-    → ⊥
+pub results_not_zero : (f : ResultsFault) (status : ℕ) → status ≡ results_status f → status ≡ 0 → ⊥
 results_not_zero (results.Log f) status is zero = log_not_zero f status is zero
 results_not_zero results.Write status is zero = omega (arith, is, zero)
 results_not_zero results.NoMemory status is zero = omega (arith, is, zero)

@@ -2,11 +2,10 @@
 use Rattle.std.proofs.Common.{◌≤◌, List, Option, subst}
 use Rattle.std.proofs.lemmas.List.{length-map}
 use Rattle.clap.specs.Words.{Row, Text}
-use Rattle.arguments.specs.Asking.{Finds}
-use Rattle.arguments.specs.declared.places.DeskPlaces.TheVariants as desks
-use Rattle.arguments.specs.declared.task.Task.{Task}
-use Rattle.arguments.specs.declared.task.Task.TheVariants as task
+use Rattle.arguments.specs.{Asking.Finds, declared.task.Task.Task}
 use Rattle.desk.specs.Statuses.{HasFew}
+use Rattle.arguments.specs.declared.places.DeskPlaces.TheVariants as desks
+use Rattle.arguments.specs.declared.task.Task.TheVariants as task
 
 pub found_few : (found : Option (Text × List Row)) (t : Task) → Finds found t → HasFew t
 found_few found (task.Replay replay) h = tt

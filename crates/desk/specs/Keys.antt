@@ -1,11 +1,9 @@
 -- What an exit status says of a key that was to be made (the project's own).
 use Rattle.std.specs.Prelude.{◌≡◌, ◌⊎◌, ℕ, List, Option, None, Some}
 use Rattle.std.specs.Io.KnownBytes.{Keeps}
-use Rattle.desk_requests.specs.Statuses.{status_of}
-use Rattle.desk_requests.specs.declared.fault.DeskFault.{DeskFault}
+use Rattle.desk_requests.specs.{Statuses.status_of, declared.fault.DeskFault.DeskFault}
+use Rattle.keys.specs.{key_file.KeyFiles.PrintsSomeKey, declared.key_file.fault.MakeFault.MakeFault}
 use Rattle.desk_requests.specs.declared.fault.DeskFault.TheVariants as fault
-use Rattle.keys.specs.key_file.KeyFiles.{PrintsSomeKey}
-use Rattle.keys.specs.declared.key_file.fault.MakeFault.{MakeFault}
 use Rattle.keys.specs.declared.key_file.fault.MakeFault.TheVariants as making
 use Rattle.lines.specs.declared.fault.RunFault.TheVariants as run
 

@@ -1,58 +1,43 @@
 -- What an exit status says of the run (the project's own).
-use Rattle.std.specs.Prelude.{◌≡◌, ◌⊎◌, ℕ, Bool, true, false, List, Option, None, map}
-use Rattle.std.specs.Prelude.{option_map}
-use Rattle.std.specs.Borrow.{Bor}
-use Rattle.std.specs.Io.KnownBytes.{Keeps}
+use Rattle.std.specs.Prelude.{◌≡◌, ◌⊎◌, ℕ, Bool, true, false, List, Option, None, map, option_map}
+use Rattle.std.specs.{Borrow.Bor, Io.KnownBytes.Keeps}
 use Rattle.clap.specs.Words.{Text}
-use Rattle.lines.specs.Bytes.{HasLeft, Sides}
-use Rattle.lines.specs.declared.fault.RunFault.{RunFault}
-use Rattle.lines.specs.declared.fault.RunFault.TheVariants as run
-use Rattle.desk_choice.specs.Files.{IsOfFile}
-use Rattle.desk_choice.specs.Keys.{key_file_of, naming}
+use Rattle.lines.specs.{Bytes.HasLeft, Bytes.Sides, declared.fault.RunFault.RunFault}
+use Rattle.desk_choice.specs.{Files.IsOfFile, Keys.key_file_of, Keys.naming}
 use Rattle.desk_choice.specs.Printing.{FailsToPrint, PrintsHall}
-use Rattle.hall.specs.Halls.{Run as HallRun, Runs, RunFails}
-use Rattle.hall.specs.Halls.{run_of as hall_run_of}
+use Rattle.hall.specs.Halls.{Run as HallRun, Runs, RunFails, run_of as hall_run_of}
 use Rattle.hall_file.specs.Halls.{Says, texts_of}
-use Rattle.hall_file.specs.declared.hall_file.HallFile.{HallFile}
+use Rattle.hall_file.specs.declared.{hall_file.HallFile.HallFile, service.Service.Service}
 use Rattle.batch.specs.Dialing.{Dialed}
-use Rattle.exports.specs.imports.Printing.{FailsImport, PrintsImport}
-use Rattle.exports.specs.imports.Printing.{status_of as status_of_import}
-use Rattle.exports.specs.declared.imports.fault.ImportsFault.{ImportsFault}
-use Rattle.exports.specs.Files.{FailsExport, PrintsExport}
-use Rattle.exports.specs.Results.{FailsResults, PrintsResults}
+use Rattle.exports.specs.imports.Printing.{FailsImport, PrintsImport, status_of as status_of_import}
+use Rattle.exports.specs.{declared.imports.fault.ImportsFault.ImportsFault, Files.FailsExport}
+use Rattle.exports.specs.{Files.PrintsExport, Results.FailsResults, Results.PrintsResults}
 use Rattle.exports.specs.Statuses.{export_status, notes_status, results_status}
-use Rattle.exports.specs.declared.fault.ExportsFault.{ExportsFault}
-use Rattle.exports.specs.declared.fault.ResultsFault.{ResultsFault}
+use Rattle.exports.specs.declared.fault.{ExportsFault.ExportsFault, ResultsFault.ResultsFault}
 use Rattle.wcif.specs.declared.options.Options.{Options}
 use Rattle.wcif_results.specs.declared.note.ExportNote.{ExportNote}
 use Rattle.replay.specs.Apart.{Told}
 use Rattle.standings.specs.declared.forms.Form.{Form}
-use Rattle.standings.specs.declared.forms.Form.TheVariants as form
 use Rattle.desk_file.specs.stored_log.StoredLogs.{PrintsLog, PrintsLogPart}
 use Rattle.desk_file.specs.declared.stored_log.fault.StoredLogFault.{StoredLogFault}
-use Rattle.desk_file.specs.declared.stored_log.fault.StoredLogFault.TheVariants as stored
 use Rattle.serve.specs.Printing.{Prints, PrintsAt, output}
 use Rattle.serve.specs.declared.fault.ServeFault.{ServeFault}
-use Rattle.serve.specs.declared.fault.ServeFault.TheVariants as serve
-use Rattle.hall_file.specs.declared.service.Service.{Service}
-use Rattle.arguments.specs.Asking.{Asks}
-use Rattle.desk_requests.specs.Statuses.{status_of}
-use Rattle.desk_requests.specs.declared.fault.DeskFault.{DeskFault}
-use Rattle.desk_requests.specs.declared.fault.DeskFault.TheVariants as fault
+use Rattle.arguments.specs.{Asking.Asks, declared.places.Place.Place}
+use Rattle.desk_requests.specs.{Statuses.status_of, declared.fault.DeskFault.DeskFault}
 use Rattle.fault_lines.specs.Statuses.{EndsTask, RunsNothing, status_of_run}
-use Rattle.arguments.specs.declared.places.DeskPlaces.TheVariants as desks
-use Rattle.arguments.specs.declared.places.Place.{Place}
-use Rattle.arguments.specs.declared.task.HallService.{HallService}
-use Rattle.arguments.specs.declared.task.Task.{Task}
-use Rattle.arguments.specs.declared.task.Task.TheVariants as task
+use Rattle.arguments.specs.declared.task.{HallService.HallService, Task.Task}
 use Rattle.desk.specs.Keys.{EndsKey}
-use Rattle.subcommands.specs.Begun.{AsksFirst}
+use Rattle.subcommands.specs.{Begun.AsksFirst, Folders.EndsFolders, Places.NamesDesk, Places.Reach}
 use Rattle.subcommands.specs.Asking.{EndsCarry, EndsCopyLog, EndsNewest, log_form}
-use Rattle.subcommands.specs.Entering.{EndsLines, EndsWords}
-use Rattle.subcommands.specs.Folders.{EndsFolders}
-use Rattle.subcommands.specs.Places.{NamesDesk, Reach}
-use Rattle.subcommands.specs.Services.{IsEntryKeyFile, IsServiceOf}
-use Rattle.subcommands.specs.Standings.{AreFew, EndsStatus}
+use Rattle.subcommands.specs.{Entering.EndsLines, Entering.EndsWords, Standings.AreFew}
+use Rattle.subcommands.specs.{Services.IsEntryKeyFile, Services.IsServiceOf, Standings.EndsStatus}
+use Rattle.lines.specs.declared.fault.RunFault.TheVariants as run
+use Rattle.standings.specs.declared.forms.Form.TheVariants as form
+use Rattle.desk_file.specs.declared.stored_log.fault.StoredLogFault.TheVariants as stored
+use Rattle.serve.specs.declared.fault.ServeFault.TheVariants as serve
+use Rattle.desk_requests.specs.declared.fault.DeskFault.TheVariants as fault
+use Rattle.arguments.specs.declared.places.DeskPlaces.TheVariants as desks
+use Rattle.arguments.specs.declared.task.Task.TheVariants as task
 
 -- the fault of a desk that serves
 abbrev pub fault_of_serve : ServeFault → DeskFault
@@ -135,8 +120,7 @@ reach_of c t = record { dialed = c.old; dialed_then = c.new; told = t.before }
 -- a script was run to its end, or to a fault
 abbrev pub EndsHall : ℕ → HallRun → Type 0
 EndsHall status r =
-    ((status ≡ 0) × Runs r)
-    ⊎ ((e : RunFault) × (status ≡ status_of_run e) × RunFails e r)
+    ((status ≡ 0) × Runs r) ⊎ ((e : RunFault) × (status ≡ status_of_run e) × RunFails e r)
 
 -- a desk served and printed both lines, or it ended by a fault
 abbrev pub EndsServe : ℕ → Service → Option (List ℕ) → Option (List ℕ) → Type 0
@@ -155,14 +139,12 @@ EndsUnserved status c old new =
 abbrev pub EndsServeHall : ℕ → Bor (List ℕ) → HallService → Calls → Option (List ℕ)
     → Option (List ℕ) → Type 0
 EndsServeHall status file wanted c old new =
-    EndsUnserved status c old new
-    ⊎ ((hall : HallFile) × (bytes : List ℕ) × Says bytes hall
+    EndsUnserved status c old new ⊎ ((hall : HallFile) × (bytes : List ℕ) × Says bytes hall
     × (((status ≡ 3) × AsksFirst file wanted hall (texts_of hall) false c.old c.new × Keeps old new)
     ⊎ ((s : Service) × (entry_key : Option (List ℕ))
     × IsEntryKeyFile wanted.entry_key file.now entry_key
     × IsServiceOf s hall.hall wanted (key_file_of (naming file wanted.key) hall) entry_key
-    (texts_of hall)
-    × AsksFirst file wanted hall (texts_of hall) true c.old c.new
+    (texts_of hall) × AsksFirst file wanted hall (texts_of hall) true c.old c.new
     × EndsServe status s old new)))
 
 -- where all was done, nothing is written on the fault stream
@@ -221,8 +203,7 @@ Ends (task.Carry place patience request) status s c t =
 Ends (task.Newest place patience event round style) status s c t =
     Keeps s.had s.left
     × EndsNewest place patience (record { event = event; round = round; style = style }) status
-    (reach_of c t) s.old s.new
-    × IsQuietAt place status t
+    (reach_of c t) s.old s.new × IsQuietAt place status t
 Ends (task.Enter place patience id words waits) status s c t =
     Keeps s.had s.left
     × EndsWords place patience id words.now waits status (reach_of c t) s.old s.new
@@ -235,8 +216,7 @@ Ends (task.CopyLog place patience start form) status s c t =
     × EndsCopyLog place patience start (log_form form) status (reach_of c t) s.old s.new
     × IsQuietAt place status t
 Ends (task.Status desks patience json watches all) status s c t =
-    Keeps s.had s.left
-    × EndsStatus desks patience (form_of json) watches all status
+    Keeps s.had s.left × EndsStatus desks patience (form_of json) watches all status
     (record { dialed = c.old; dialed_then = c.new; old = s.old; new = s.new })
 Ends (task.Serve service) status s c t =
     Keeps s.had s.left × EndsServe status service s.old s.new × IsQuiet status t

@@ -1,13 +1,11 @@
 -- The desk of a hall's file that is found.
 use Rattle.std.proofs.Common.{◌≡◌, ◌++◌, ◌∙◌, ℕ, List, Option, None, Some, Result, IfErr, IfOk, ap}
-use Rattle.std.proofs.Common.{inl, inr, string_bytes, subst, sym}
-use Rattle.std.proofs.KnownBytes.{Keeps-trans}
-use Rattle.std.proofs.lemmas.Result.{IfErr-weaker, IfOk-weaker}
-use Rattle.std.specs.Io.KnownBytes.{Appends, Keeps}
+use Rattle.std.proofs.{Common.inl, Common.inr, Common.string_bytes, KnownBytes.Keeps-trans}
+use Rattle.std.proofs.{Common.subst, lemmas.Result.IfErr-weaker, lemmas.Result.IfOk-weaker}
+use Rattle.std.{proofs.Common.sym, specs.Io.KnownBytes.Appends, specs.Io.KnownBytes.Keeps}
 use Rattle.batch.specs.Dialing.{Dialed}
 use Rattle.desk_requests.specs.declared.fault.DeskFault.{DeskFault}
-use Rattle.hall_file.specs.Halls.{Says}
-use Rattle.hall_file.specs.declared.hall_file.HallFile.{HallFile}
+use Rattle.hall_file.specs.{Halls.Says, declared.hall_file.HallFile.HallFile}
 use Rattle.lines.specs.Bytes.{AppendsPart}
 use Rattle.desk_choice.specs.Keys.{FailsKey, IsKeyOf, Naming, key_file_of}
 use Rattle.desk_choice.specs.Resolving.{Chooses, FailsToChoose, FailsToFind, FindsDesk, IsDeskOf}
@@ -67,8 +65,7 @@ told_later file a old mid new quiet told = record {
 
 -- what became of connections, and of the fault stream
 abbrev pub seen : (first last : Option (List Dialed)) (old new : Option (List ℕ)) → Outside
-seen first last old new =
-    record { dialed = first; dialed_then = last; told = old; told_then = new }
+seen first last old new = record { dialed = first; dialed_then = last; told = old; told_then = new }
 
 chosen_later : (file : HallFile) (key : Option (List ℕ)) (patience : ℕ) (a : DeskAddress)
     (first last : Option (List Dialed)) (old mid new : Option (List ℕ)) → Keeps old mid
@@ -101,8 +98,7 @@ pub answering : (n : Naming) (asked : Option ℕ) (patience : ℕ) (file : HallF
 answering n asked patience file key first last old mid new r is says under quiet found =
     subst (λ x. IfOk r (λ a. FindsDesk n x patience a (seen first last old new))) (sym is)
     (IfOk-weaker r (λ a. Chooses file key patience a (seen first last mid new))
-    (λ a. FindsDesk n None patience a (seen first last old new))
-    (λ a of. (
+    (λ a. FindsDesk n None patience a (seen first last old new)) (λ a of. (
       file,
       says.0,
       says.1,
@@ -120,8 +116,7 @@ pub not_answering : (n : Naming) (asked : Option ℕ) (patience : ℕ) (file : H
 not_answering n asked patience file key first last old mid new r is says under quiet missed =
     subst (λ x. IfErr r (λ f. FailsToFind f n x patience (seen first last old new))) (sym is)
     (IfErr-weaker r (λ f. FailsToChoose f file key patience (seen first last mid new))
-    (λ f. FailsToFind f n None patience (seen first last old new))
-    (λ f of. inr (
+    (λ f. FailsToFind f n None patience (seen first last old new)) (λ f of. inr (
       file,
       says.0,
       says.1,

@@ -1,18 +1,14 @@
 -- Desks that are asked until one answers.
 use Rattle.std.proofs.Common.{◌≡◌, ◌≢◌, ◌⊎◌, ◌≤◌, ◌-◌, ◌∷◌, [], ◌∙◌, ℕ, zero, suc, List, Option}
 use Rattle.std.proofs.Common.{None, Some, Result, Ok, Err, Bor, ap, arith, inl, inr, length}
-use Rattle.std.proofs.Common.{option_map, refl}
-use Rattle.std.proofs.Common.{string_bytes, subst, sym, vec_len}
-use Rattle.std.proofs.lemmas.List.{length-map}
-use Rattle.std.proofs.lemmas.Option.{slice_get-get_or}
+use Rattle.std.proofs.Common.{option_map, refl, string_bytes, subst, sym, vec_len}
+use Rattle.std.proofs.lemmas.{List.length-map, Option.slice_get-get_or}
 use Rattle.batch.specs.Dialing.{Adds, Dialed, asked_so}
 use Rattle.batch.specs.declared.fault.BatchFault.{BatchFault}
 use Rattle.client.specs.Standings.{status_request}
 use Rattle.desk_requests.specs.declared.fault.DeskFault.{DeskFault}
-use Rattle.hall_file.specs.Halls.{address_at, texts_of}
-use Rattle.hall_file.specs.declared.hall_file.HallFile.{HallFile}
-use Rattle.wire.specs.declared.frame.Frame.{Frame}
-use Rattle.wire.specs.declared.frame.FrameBody.{FrameBody}
+use Rattle.hall_file.specs.{Halls.address_at, Halls.texts_of, declared.hall_file.HallFile.HallFile}
+use Rattle.wire.specs.declared.frame.{Frame.Frame, FrameBody.FrameBody}
 use Rattle.desk_choice.specs.Seeking.{AsksDesk, Seeking, Seeks, no_memory, place_in, seeking}
 use Rattle.desk_choice.specs.Seeking.{why_not}
 
@@ -35,14 +31,12 @@ listens file desk r some there is none =
 pub address_is : (file : HallFile) (desk : ℕ) (r : Option (Bor (List ℕ))) (a : Bor (List ℕ))
     → option_map (λ s. s.now) r ≡ address_at (texts_of file) desk → r ≡ Some a
     → address_at (texts_of file) desk ≡ Some a.now
-address_is file desk r a is found =
-    sym is ∙ ap (option_map (λ (s : Bor (List ℕ)). s.now)) found
+address_is file desk r a is found = sym is ∙ ap (option_map (λ (s : Bor (List ℕ)). s.now)) found
 
 -- a desk of the file was asked where the file says
 pub asks_desk : (file : HallFile) (patience : ℕ) (key : Option (List ℕ)) (desk : ℕ)
     (r : Option (Bor (List ℕ))) (a : Bor (List ℕ)) (request : Frame)
-    (answer : Result FrameBody BatchFault)
-    (old new : Option (List Dialed))
+    (answer : Result FrameBody BatchFault) (old new : Option (List Dialed))
     → option_map (λ s. s.now) r ≡ address_at (texts_of file) desk → r ≡ Some a
     → request ≡ status_request file.hall desk
     → Adds (place_in (seeking file patience key) a.now) old new (asked_so request answer ∷ [])
@@ -88,15 +82,3 @@ seeks_below s (suc n) answer f old mid new found some asks why more memory rest 
       asks,
       inr (f, why, inr ((λ none. more (ap suc none)), memory, below)),
     )
-
--- the desk that was found has an address
-pub found_listens : (s : Seeking) (n : ℕ) (old new : Option (List Dialed)) (d : ℕ)
-    (found : Result ℕ DeskFault) → Seeks s n old new found → found ≡ Ok d
-    → (address : List ℕ) × (address_at s.addresses d ≡ Some address)
-found_listens s zero old new d found seeks is = absurd seeks
-found_listens s (suc n) old new d found (answer, mid, asks, inl (none, same, here)) is =
-    let at : d ≡ suc n = cc in (asks.address, ap (address_at s.addresses) at ∙ asks.listens)
-found_listens s (suc n) old new d found (answer, mid, asks, inr (f, why, inl (last, e, none))) is =
-    absurd (let both = none in cc)
-found_listens s (suc n) old new d found (answer, mid, asks, inr (f, why, inr (more, memory, rest)))
-    is = found_listens s n mid new d found rest is

@@ -1,13 +1,10 @@
 -- The key under which the desks of a hall are asked (the project's own).
 use Rattle.std.specs.Prelude.{◌≡◌, ◌⊎◌, ℕ, List, Option, None, Some, IsSome, option_map}
-use Rattle.std.specs.Borrow.{Bor}
-use Rattle.std.specs.Path.{path_join}
+use Rattle.std.specs.{Borrow.Bor, Path.path_join}
 use Rattle.desk_requests.specs.declared.fault.DeskFault.{DeskFault}
+use Rattle.hall_file.specs.{Halls.folder_of, Halls.key_text, declared.hall_file.HallFile.HallFile}
+use Rattle.keys.specs.{key_file.KeyFiles.IsSpelt, declared.key_file.fault.KeyFileFault.KeyFileFault}
 use Rattle.desk_requests.specs.declared.fault.DeskFault.TheVariants as fault
-use Rattle.hall_file.specs.Halls.{folder_of, key_text}
-use Rattle.hall_file.specs.declared.hall_file.HallFile.{HallFile}
-use Rattle.keys.specs.key_file.KeyFiles.{IsSpelt}
-use Rattle.keys.specs.declared.key_file.fault.KeyFileFault.{KeyFileFault}
 use Rattle.lines.specs.declared.fault.RunFault.TheVariants as run
 
 -- the path of a hall's file, and that of a key's file, where one is given
@@ -35,5 +32,4 @@ IsKeyOf (Some file) (Some key) = IsSpelt key
 -- memory ran out, or the key's file that is named gives none
 abbrev pub FailsKey : Option (List ℕ) → DeskFault → Type 0
 FailsKey file f =
-    (f ≡ fault.Run run.NoMemory)
-    ⊎ (IsSome file × (e : KeyFileFault) × (f ≡ fault.KeyFile e))
+    (f ≡ fault.Run run.NoMemory) ⊎ (IsSome file × (e : KeyFileFault) × (f ≡ fault.KeyFile e))

@@ -2,13 +2,10 @@
 use Rattle.std.specs.Prelude.{◌≡◌, ◌⊎◌, ◌<◌, ℕ, List, Option, None, length}
 use Rattle.std.specs.Io.KnownBytes.{Appends, Keeps}
 use Rattle.desk_requests.specs.declared.fault.DeskFault.{DeskFault}
-use Rattle.desk_requests.specs.declared.fault.DeskFault.TheVariants as fault
-use Rattle.hall_file.specs.Files.{SaysHall, members_of, most_bytes}
-use Rattle.hall_file.specs.Halls.{data_of}
-use Rattle.hall_file.specs.Lines.{IsDocument}
-use Rattle.hall_file.specs.Members.{FailsDesks}
-use Rattle.hall_file.specs.declared.fault.DesksFault.{DesksFault}
+use Rattle.hall_file.specs.{Files.SaysHall, Files.members_of, Files.most_bytes, Members.FailsDesks}
+use Rattle.hall_file.specs.{Halls.data_of, Lines.IsDocument, declared.fault.DesksFault.DesksFault}
 use Rattle.lines.specs.Bytes.{AppendsPart}
+use Rattle.desk_requests.specs.declared.fault.DeskFault.TheVariants as fault
 use Rattle.lines.specs.declared.fault.RunFault.TheVariants as run
 
 -- a file that says this hall, and names no key, was written

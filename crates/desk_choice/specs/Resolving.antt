@@ -1,20 +1,18 @@
 -- The desk that arguments ask for: of an address, or of a hall's file (the project's own).
 use Rattle.std.specs.Prelude.{◌≡◌, ◌≢◌, ◌⊎◌, ◌++◌, ℕ, List, Option, None, Some, Result, Ok, Err}
 use Rattle.std.specs.Prelude.{codes, decimal, option_map, string_bytes, vec_len}
-use Rattle.std.specs.Borrow.{Bor}
-use Rattle.std.specs.Io.KnownBytes.{Keeps}
+use Rattle.std.specs.{Borrow.Bor, Io.KnownBytes.Keeps}
 use Rattle.arguments.specs.declared.places.Place.{Place}
-use Rattle.arguments.specs.declared.places.Place.TheVariants as place
 use Rattle.batch.specs.Dialing.{Dialed}
 use Rattle.desk_requests.specs.declared.fault.DeskFault.{DeskFault}
-use Rattle.desk_requests.specs.declared.fault.DeskFault.TheVariants as fault
 use Rattle.hall_file.specs.Halls.{Says, address_at, texts_of}
 use Rattle.hall_file.specs.declared.hall_file.HallFile.{HallFile}
 use Rattle.lines.specs.Bytes.{AppendsPart}
-use Rattle.desk_choice.specs.Files.{IsOfFile}
+use Rattle.desk_choice.specs.{Files.IsOfFile, declared.resolving.DeskAddress.DeskAddress}
 use Rattle.desk_choice.specs.Keys.{FailsKey, IsKeyOf, Naming, key_file_of, naming}
 use Rattle.desk_choice.specs.Seeking.{Seeks, no_memory, seeking}
-use Rattle.desk_choice.specs.declared.resolving.DeskAddress.{DeskAddress}
+use Rattle.arguments.specs.declared.places.Place.TheVariants as place
+use Rattle.desk_requests.specs.declared.fault.DeskFault.TheVariants as fault
 
 -- what became of connections, and what the fault stream has, before a call and afterwards
 pub record Outside : Type 0 where
@@ -60,8 +58,7 @@ asking_text desk address =
 -- last desk of the hall
 pub record IsTold (file : HallFile) (a : DeskAddress) (old new : Option (List ℕ)) : Type 0 where
   pub last : a.desk ≡ vec_len file.desks → Keeps old new
-  pub other :
-      a.desk ≢ vec_len file.desks
+  pub other : a.desk ≢ vec_len file.desks
       → AppendsPart old new (asking_text a.desk (string_bytes a.address))
 
 -- the desks of a hall's file were asked under this key from the last one to the first, and this is
@@ -98,8 +95,7 @@ IsKeyless n f =
 
 -- the desk of a number in a hall's file, or the last one that answers
 abbrev pub FindsDesk : Naming → Option ℕ → ℕ → DeskAddress → Outside → Type 0
-FindsDesk n (Some desk) patience a o =
-    IsSaid n (λ file key. IsDeskOf file key desk a × IsQuiet o)
+FindsDesk n (Some desk) patience a o = IsSaid n (λ file key. IsDeskOf file key desk a × IsQuiet o)
 FindsDesk n None patience a o = IsSaid n (λ file key. Chooses file key patience a o)
 
 -- no desk was asked: the file gives no hall, or its key cannot be read

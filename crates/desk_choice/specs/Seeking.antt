@@ -5,13 +5,11 @@ use Rattle.std.specs.Prelude.{Result, Ok, Err}
 use Rattle.batch.specs.Dialing.{Adds, Dialed, Place, asked_so}
 use Rattle.batch.specs.declared.fault.BatchFault.{BatchFault}
 use Rattle.client.specs.Standings.{status_request}
-use Rattle.desk_requests.specs.Statuses.{fault_of_batch}
-use Rattle.desk_requests.specs.declared.fault.DeskFault.{DeskFault}
-use Rattle.desk_requests.specs.declared.fault.DeskFault.TheVariants as fault
-use Rattle.hall_file.specs.Halls.{address_at, texts_of}
-use Rattle.hall_file.specs.declared.hall_file.HallFile.{HallFile}
-use Rattle.lines.specs.declared.fault.RunFault.TheVariants as run
+use Rattle.desk_requests.specs.{Statuses.fault_of_batch, declared.fault.DeskFault.DeskFault}
+use Rattle.hall_file.specs.{Halls.address_at, Halls.texts_of, declared.hall_file.HallFile.HallFile}
 use Rattle.wire.specs.declared.frame.FrameBody.{FrameBody}
+use Rattle.desk_requests.specs.declared.fault.DeskFault.TheVariants as fault
+use Rattle.lines.specs.declared.fault.RunFault.TheVariants as run
 use Rattle.wire.specs.declared.frame.FrameBody.TheVariants as what
 
 -- the hall whose desks are asked, where they listen, for how many seconds each is waited for, and
@@ -42,8 +40,7 @@ pub record AsksDesk (s : Seeking) (desk : ℕ) (answer : Result FrameBody BatchF
     (old new : Option (List Dialed)) : Type 0 where
   pub address : List ℕ
   pub listens : address_at s.addresses desk ≡ Some address
-  pub asked :
-      Adds (place_in s address) old new (asked_so (status_request s.hall desk) answer ∷ [])
+  pub asked : Adds (place_in s address) old new (asked_so (status_request s.hall desk) answer ∷ [])
 
 abbrev pub no_memory : DeskFault
 no_memory = fault.Run run.NoMemory

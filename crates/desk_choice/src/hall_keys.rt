@@ -86,10 +86,8 @@ pub fn key_of_hall<R: Files + AllocGlobal>(
     given: Option<&str>,
     hall: &HallFile,
 ) -> Result<Option<[u8; 32]>, DeskFault>
-    ensures ok { IfOk result
-        (IsKeyOf (key_file_of (naming path.entry given.entry) hall.now)) }
-    ensures err { IfErr result
-        (FailsKey (key_file_of (naming path.entry given.entry) hall.now)) }
+    ensures ok { IfOk result (IsKeyOf (key_file_of (naming path.entry given.entry) hall.now)) }
+    ensures err { IfErr result (FailsKey (key_file_of (naming path.entry given.entry) hall.now)) }
 {
     let file = match hall_key_file(rt.alloc(), path, given, hall) {
         Ok(file) => file,

@@ -1,7 +1,6 @@
 //! A hall's file, printed.
 
-ghost use Rattle.std.specs.Prelude.{map, IfErr, OnOk};
-ghost use Rattle.std.specs.Io.KnownBytes.{Keeps};
+ghost use Rattle.std.specs.{Prelude.map, Prelude.IfErr, Prelude.OnOk, Io.KnownBytes.Keeps};
 ghost use Rattle.desk_choice.specs.Printing.{FailsToPrint, PrintsHall};
 
 use desk_requests::DeskFault;

@@ -2,12 +2,10 @@
 
 ghost use Rattle.std.specs.Prelude.{◌≡◌, ◌++◌, decimal, option_map, IfErr, IfOk, OnErr, OnOk};
 ghost use Rattle.std.specs.Io.KnownBytes.{Keeps};
-ghost use Rattle.desk_choice.specs.Keys.{FailsKey, naming};
+ghost use Rattle.desk_choice.specs.{Keys.FailsKey, Keys.naming, Seeking.no_memory};
 ghost use Rattle.desk_choice.specs.Resolving.{Chooses, FailsToChoose, FailsToFind, FailsToResolve};
 ghost use Rattle.desk_choice.specs.Resolving.{FindsDesk, IsAt, IsDeskOf, IsTold, MissesDesk};
-ghost use Rattle.desk_choice.specs.Resolving.{Resolves};
-ghost use Rattle.desk_choice.specs.Resolving.{asking_text, outside};
-ghost use Rattle.desk_choice.specs.Seeking.{no_memory};
+ghost use Rattle.desk_choice.specs.Resolving.{Resolves, asking_text, outside};
 
 use crate::files::hall_of_file;
 use crate::hall_keys::{key_at, key_of_hall};

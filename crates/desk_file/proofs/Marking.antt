@@ -1,13 +1,11 @@
 -- The mark of a file, and the log of its use.
-use Rattle.std.proofs.Common.{◌≡◌, ◌≢◌, ◌⊎◌, inl, inr, ℕ, ◌+◌, ◌/◌, ◌%◌, ◌^◌, ◌<◌, ◌≤◌, List}
-use Rattle.std.proofs.Common.{[], ◌∷◌, ◌*◌, length, refl, slice_index, sym, ◌∙◌}
-use Rattle.std.proofs.Common.{ap, subst, arith, Result, Ok, Err}
-use Rattle.std.proofs.Common.{Bool, IsTrue, OnOk, false, true}
+use Rattle.std.proofs.Common.{◌≡◌, ◌≢◌, ◌⊎◌, inl, inr, ℕ, ◌+◌, ◌/◌, ◌%◌, ◌^◌, ◌<◌, ◌≤◌, List, []}
+use Rattle.std.proofs.Common.{◌∷◌, ◌*◌, length, refl, slice_index, sym, ◌∙◌, ap, subst, arith}
+use Rattle.std.proofs.Common.{Result, Ok, Err, Bool, IsTrue, OnOk, false, true}
 use Rattle.std.proofs.lemmas.Bool.{false≢true}
 use Rattle.sqlite_disk.specs.Disk.{Holds, Mixed, Torn}
-use Rattle.sqlite_wal.specs.Format.{IsSigned, be32, part}
-use Rattle.sqlite_wal.specs.Recovery.{IsIgnored, header}
-use Rattle.sqlite_wal.proofs.PartLemmas.{part_held, same_be32}
+use Rattle.sqlite_wal.specs.{Format.IsSigned, Format.be32, Recovery.IsIgnored, Recovery.header}
+use Rattle.sqlite_wal.{specs.Format.part, proofs.PartLemmas.part_held, proofs.PartLemmas.same_be32}
 use Rattle.desk_file.specs.Marks.{CountsInBytes, HasFrame, IsEmptied, IsLog, IsMarked, IsOfUse}
 use Rattle.desk_file.specs.Marks.{IsShut, Stands, StandsBeside, number_of, uses_of}
 use Rattle.desk_file.specs.declared.mark.FilesState.{FilesState}
@@ -43,8 +41,7 @@ unnamed n log isnt = (λ (l : IsLog n log). isnt l.0.1, λ (e : IsEmptied n log)
 pub too_short : (n : ℕ) (log : List ℕ) → length log < 41 → StandsBeside standing.LogLost n log
 too_short n log short = (
   λ (l : IsLog n log). let h = l.0.0 in absurd (omega arith),
-  λ (e : IsEmptied n log). let h =
-      e.0.0 in absurd (omega arith),
+  λ (e : IsEmptied n log). let h = e.0.0 in absurd (omega arith),
 )
 
 pub unsigned : (n : ℕ) (log : List ℕ) → slice_index log 0 ≢ 0 → ¬ IsSigned (header log)
@@ -81,8 +78,7 @@ pub record Field (db : List ℕ) (w x y z : ℕ) : Type 0 where
 
 pub field_of : (d : List ℕ) → 64 ≤ length d
     → Field d (slice_index d 60) (slice_index d 61) (slice_index d 62) (slice_index d 63)
-field_of d long =
-    record { within = long; first = refl; high = refl; middle = refl; low = refl }
+field_of d long = record { within = long; first = refl; high = refl; middle = refl; low = refl }
 
 pub at_first : {d c : List ℕ} {w x y z : ℕ} (b : ℕ) → Field d w x y z → Torn 60 1 d c
     → slice_index c 60 ≡ b → Field c b x y z
@@ -264,10 +260,7 @@ pub cut_last : {c : List ℕ} {v w x y z : ℕ} (n : ℕ) → 0x100_0000 ≤ n �
     → (¬ IsMarked c) ⊎ (IsMarked c × (number_of c ≡ n))
 cut_last n big none (inl f) is_w is_x is_y is_z = inl (is_unmarked f none)
 cut_last n big none (inr f) is_w is_x is_y is_z =
-    inr (
-      is_marked f (λ zero. first_of n big (sym is_w ∙ zero)),
-      is_named n f is_w is_x is_y is_z,
-    )
+    inr (is_marked f (λ zero. first_of n big (sym is_w ∙ zero)), is_named n f is_w is_x is_y is_z)
 
 -- what is once all four are written
 pub marked_ok : {E : Type 0} (o : Result (Unit {0}) E) {p q r t : List ℕ} {a b d f : ℕ} (n : ℕ)
@@ -282,8 +275,7 @@ marked_ok (Err _) n big is high two middle three low four first = tt
 pub number_ok : {E : Type 0} (o : Result (Unit {0}) E) {p q r t : List ℕ} {a b d f : ℕ} (n : ℕ)
     → f ≡ n / 0x100_0000 → a ≡ n / 0x1_0000 % 0x100 → b ≡ n / 0x100 % 0x100 → d ≡ n % 0x100
     → Holds p 61 (a ∷ []) → Torn 62 1 p q → Holds q 62 (b ∷ []) → Torn 63 1 q r
-    → Holds r 63 (d ∷ []) → Torn 60 1 r t → OnOk o (Holds t 60 (f ∷ []))
-    → OnOk o (number_of t ≡ n)
+    → Holds r 63 (d ∷ []) → Torn 60 1 r t → OnOk o (Holds t 60 (f ∷ [])) → OnOk o (number_of t ≡ n)
 number_ok (Ok _) n is_f is_a is_b is_d high two middle three low four first =
     is_named n (written high two middle three low four first) is_f is_a is_b is_d
 number_ok (Err _) n is_f is_a is_b is_d high two middle three low four first = tt
@@ -306,8 +298,7 @@ same_count s t long torn =
     let anew = named (at_first _ (field_of s long) torn refl) in
     omega arith
 
-pub same_bytes : (s t : List ℕ) → 64 ≤ length s → Torn 60 1 s t → CountsInBytes s
-    → CountsInBytes t
+pub same_bytes : (s t : List ℕ) → 64 ≤ length s → Torn 60 1 s t → CountsInBytes s → CountsInBytes t
 same_bytes s t long torn bytes =
     let f = at_first _ (field_of s long) torn refl in
     let high = f.high in
@@ -343,8 +334,7 @@ module _ (s : List ℕ) (n : ℕ) (long : 64 ≤ length s) (b : CountsInBytes s)
       (f.within, omega arith)
 
   pub rise_middle : {c : List ℕ} {w x y : ℕ} → Field c w x y (slice_index s 63)
-      → x ≡ n / 0x1_0000 % 0x100 → y ≡ n / 0x100 % 0x100
-      → (64 ≤ length c) × (uses_of s ≤ uses_of c)
+      → x ≡ n / 0x1_0000 % 0x100 → y ≡ n / 0x100 % 0x100 → (64 ≤ length c) × (uses_of s ≤ uses_of c)
   rise_middle f is_x is_y =
       let one = b.0 in
       let two = b.1 in

@@ -1,21 +1,14 @@
 -- The keeper that is opened on a desk's files.
 use Rattle.std.proofs.Common.{◌≡◌, ◌⊎◌, inl, inr, ◌∙◌, refl, sym, ap, subst, List, [], Result, Ok}
 use Rattle.std.proofs.Common.{Err, IfOk, IfErr, Bool, false, IsTrue}
-use Rattle.sqlite.specs.Effect.{Database, IsDatabase}
-use Rattle.sqlite.specs.Recovery.{Image}
-use Rattle.sqlite.specs.Start.{FindsIn}
+use Rattle.sqlite.specs.{Effect.Database, Effect.IsDatabase, Recovery.Image, Start.FindsIn}
 use Rattle.sqlite.specs.State.{HasCleanDisk, State, Opens as IsFresh, IsLive}
 use Rattle.acceptor.specs.Storing.{first_stored}
-use Rattle.acceptor.specs.declared.entry.Entry.{Entry}
-use Rattle.acceptor.specs.declared.stored.Stored.{Stored}
-use Rattle.store.specs.Holding.{HasRow, Holds}
-use Rattle.store.specs.Kept.{HasOther, IsBare, Keeps}
-use Rattle.store.specs.Layout.{no_schema}
-use Rattle.store.specs.Opening.{Opens, Refuses}
-use Rattle.store.specs.declared.fault.OpenFault.{OpenFault}
-use Rattle.store.specs.declared.fault.OpenFault.TheVariants.{WrongDesk}
-use Rattle.store.specs.declared.home.Home.{Home}
-use Rattle.store.specs.declared.keeper.Keeper.{Ghosts}
+use Rattle.acceptor.specs.declared.{entry.Entry.Entry, stored.Stored.Stored}
+use Rattle.store.specs.{Holding.HasRow, Holding.Holds, Layout.no_schema}
+use Rattle.store.specs.{Kept.HasOther, Kept.IsBare, Kept.Keeps, Opening.Opens, Opening.Refuses}
+use Rattle.store.specs.declared.fault.OpenFault.{OpenFault, TheVariants.WrongDesk}
+use Rattle.store.specs.declared.{home.Home.Home, keeper.Keeper.Ghosts}
 use Rattle.desk_file.specs.Files.{HasNoTable, HasTable, HeldAs, HeldBy, HeldOther, IsFirst}
 use Rattle.desk_file.specs.Files.{KeepsFirst, KeepsHeld, KeepsThere, TellsOther}
 
@@ -28,14 +21,12 @@ bare_before c fresh live bare =
 
 pub held_before : (c : State) (home : Home) (s : Stored) (log : List Entry) → Keeps home s log c
     → Holds home c.committed.trees s log
-held_before c home s log k =
-    subst (λ (d : Database). Holds home d.trees s log) k.settled k.holds
+held_before c home s log k = subst (λ (d : Database). Holds home d.trees s log) k.settled k.holds
 
 -- what a keeper keeps that was opened over such a connection was held by the files
 held : (files : Image) (home : Home) (c : State) (keeps : Stored → List Entry → Type 0)
     → (HasCleanDisk c → IsFresh c × IsLive c) → (HasCleanDisk c → FindsIn files c)
-    → Opens home c keeps
-    → (s : Stored) × (log : List Entry) × keeps s log × HeldBy files home s log
+    → Opens home c keeps → (s : Stored) × (log : List Entry) × keeps s log × HeldBy files home s log
 held files home c keeps fresh found opens = from opens.found
   where
     new : IsFresh c × IsLive c
@@ -68,8 +59,7 @@ held files home c keeps fresh found opens = from opens.found
     )
 
 pub opened_on : {K E : Type 0} (k : Ghosts K) (files : Image) (home : Home) (c : State)
-    (r : Result K E)
-    → (HasCleanDisk c → IsFresh c × IsLive c) → (HasCleanDisk c → FindsIn files c)
+    (r : Result K E) → (HasCleanDisk c → IsFresh c × IsLive c) → (HasCleanDisk c → FindsIn files c)
     → IfOk r (λ keeper. k.home_of keeper ≡ home) → IfOk r (λ keeper. k.failures_of keeper ≡ 0)
     → IfOk r (λ keeper. k.is_settled keeper)
     → IfOk r (λ keeper. k.is_honest keeper → Opens home c (k.keeps keeper))
@@ -88,8 +78,7 @@ pub is_there : (b : Bool) (P : Type 0) → (P → IsTrue b) → b ≡ false → 
 is_there b P tells not p = absurd (cc (tells p, not))
 
 pub there_on : {K E : Type 0} (k : Ghosts K) (files : Image) (home : Home) (c : State)
-    (r : Result K E)
-    → (HasCleanDisk c → IsFresh c × IsLive c) → (HasCleanDisk c → FindsIn files c)
+    (r : Result K E) → (HasCleanDisk c → IsFresh c × IsLive c) → (HasCleanDisk c → FindsIn files c)
     → ¬ IsBare c
     → IfOk r (λ keeper. k.home_of keeper ≡ home) → IfOk r (λ keeper. k.failures_of keeper ≡ 0)
     → IfOk r (λ keeper. k.is_settled keeper)
@@ -120,11 +109,9 @@ there_on k files home c (Ok keeper) fresh found there place none settled opens =
 there_on k files home c (Err e) fresh found there place none settled opens = tt
 
 pub first_on : {K : Type 0} (k : Ghosts K) (files : Image) (home : Home) (c : State) (keeper : K)
-    → (HasCleanDisk c → IsFresh c × IsLive c) → (HasCleanDisk c → FindsIn files c)
-    → IsBare c
+    → (HasCleanDisk c → IsFresh c × IsLive c) → (HasCleanDisk c → FindsIn files c) → IsBare c
     → k.home_of keeper ≡ home → k.failures_of keeper ≡ 0 → k.is_settled keeper
-    → (k.is_honest keeper → Opens home c (k.keeps keeper))
-    → KeepsFirst k files home keeper
+    → (k.is_honest keeper → Opens home c (k.keeps keeper)) → KeepsFirst k files home keeper
 first_on k files home c keeper fresh found bare place none settled opens = record {
   place = place;
   fresh = none;
@@ -181,8 +168,7 @@ pub other_on : {D K : Type 0} (state_of : D → State) (files : Image) (home : H
     → (HasCleanDisk c → IsFresh c × IsLive c) → (HasCleanDisk c → FindsIn files c)
     → IfErr r (λ fault. (dropped : D)
     × (HasCleanDisk (state_of dropped) → Refuses home c (state_of dropped) fault))
-    → r ≡ Err WrongDesk
-    → TellsOther state_of files home
+    → r ≡ Err WrongDesk → TellsOther state_of files home
 other_on state_of files home c (Ok keeper) fresh found told is = absurd cc
 other_on state_of files home c (Err fault) fresh found told is = (
   told.0,

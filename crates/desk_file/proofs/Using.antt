@@ -1,20 +1,13 @@
 -- A use that begins and one that ends.
-use Rattle.std.proofs.Common.{◌≡◌, ◌⊎◌, inl, inr, ◌∙◌, refl, true, false, ℕ, List, [], ◌∷◌}
-use Rattle.std.proofs.Common.{◌≤◌, length, slice_index, subst, sym, arith, Result, Ok, Err, OnOk}
-use Rattle.std.proofs.Common.{Option, Some, IfSome}
-use Rattle.sqlite_disk.specs.Disk.{Mixed, Torn}
-use Rattle.sqlite_disk.specs.Events.{replay}
-use Rattle.sqlite_disk.specs.Modelled.{start_of}
-use Rattle.sqlite_disk.specs.declared.Disk as disk
-use Rattle.sqlite_disk.specs.declared.Files.{Files}
-use Rattle.sqlite_disk.specs.declared.calls.Calls as calls
-use Rattle.sqlite_disk.specs.declared.modelled.Modelled.{Modelled}
-use Rattle.sqlite_disk.specs.declared.start.Start.{Ghosts}
-use Rattle.sqlite_std_file.specs.File.{IsFresh}
-use Rattle.sqlite_std_file.specs.declared.host.Host.{Host}
-use Rattle.desk_file.specs.Marks.{IsBegun, IsBetween, IsLog, IsMarked, number_of}
-use Rattle.desk_file.specs.Marks.{uses_of}
+use Rattle.std.proofs.Common.{◌≡◌, ◌⊎◌, inl, inr, refl, true, false, ℕ, List, [], ◌∷◌, ◌≤◌, length}
+use Rattle.std.proofs.Common.{subst, sym, arith, Result, Ok, Err, OnOk, Option, Some, IfSome}
+use Rattle.sqlite_disk.specs.{Disk.Mixed, Disk.Torn, Events.replay, Modelled.start_of}
+use Rattle.sqlite_disk.specs.declared.{Files.Files, modelled.Modelled.Modelled, start.Start.Ghosts}
+use Rattle.sqlite_std_file.specs.{File.IsFresh, declared.host.Host.Host}
+use Rattle.desk_file.specs.Marks.{IsBegun, IsBetween, IsLog, IsMarked, number_of, uses_of}
 use Rattle.desk_file.proofs.Marking.{same_count}
+use Rattle.sqlite_disk.specs.declared.Disk as disk
+use Rattle.sqlite_disk.specs.declared.calls.Calls as calls
 
 -- ---- files as they are opened
 
@@ -43,8 +36,7 @@ pub there_ok : {T E : Type 0} (o : Result (Unit {0}) E) (P : T → Type 0) (x : 
 there_ok (Ok _) P x p = (x, p)
 there_ok (Err _) P x p = tt
 
-pub some_is : {T : Type 0} (P : T → Type 0) (o : Option T) (x : T) → o ≡ Some x → IfSome o P
-    → P x
+pub some_is : {T : Type 0} (P : T → Type 0) (o : Option T) (x : T) → o ≡ Some x → IfSome o P → P x
 some_is P o x is p = subst (λ m. IfSome m P) is p
 
 -- ---- a use that ends, and the next one
@@ -81,6 +73,5 @@ pub counted_at : (s t c : List ℕ) → 64 ≤ length s → Torn 60 1 s t → c 
 counted_at s t c long torn is =
     let longer = torn.no_shorter in (
       subst (λ k. 64 ≤ length k) (sym is) (omega arith),
-      subst (λ k. uses_of t ≤ uses_of k) (sym is)
-          (omega arith),
+      subst (λ k. uses_of t ≤ uses_of k) (sym is) (omega arith),
     )

@@ -1,23 +1,14 @@
 -- What a desk's files held, and the store that is opened on them (the project's own).
 use Rattle.std.specs.Prelude.{◌≡◌, ◌≢◌, ◌⊎◌, List, []}
-use Rattle.sqlite.specs.Effect.{IsDatabase}
-use Rattle.sqlite.specs.Files.{AreFoundIn, HoldsDatabase}
-use Rattle.sqlite.specs.Recovery.{Image}
-use Rattle.sqlite.specs.Schema.{Schema}
-use Rattle.sqlite.specs.State.{HasCleanDisk, State}
-use Rattle.sqlite.specs.Tree.{Trees}
+use Rattle.sqlite.specs.{Effect.IsDatabase, Recovery.Image, Schema.Schema, Tree.Trees}
+use Rattle.sqlite.specs.{Files.AreFoundIn, Files.HoldsDatabase, State.HasCleanDisk, State.State}
 use Rattle.acceptor.specs.Storing.{first_stored}
-use Rattle.acceptor.specs.declared.entry.Entry.{Entry}
-use Rattle.acceptor.specs.declared.stored.Stored.{Stored}
-use Rattle.store.specs.Holding.{HasRow, Holds}
-use Rattle.store.specs.Layout.{no_schema}
-use Rattle.store.specs.Ranges.{IsHome}
-use Rattle.store.specs.declared.fault.LoadFault.{LoadFault}
+use Rattle.acceptor.specs.declared.{entry.Entry.Entry, stored.Stored.Stored}
+use Rattle.store.specs.{Holding.HasRow, Holding.Holds, Layout.no_schema, Ranges.IsHome}
+use Rattle.store.specs.declared.fault.{LoadFault.LoadFault, OpenFault.OpenFault}
+use Rattle.store.specs.declared.{home.Home.Home, keeper.Keeper.Ghosts}
 use Rattle.store.specs.declared.fault.LoadFault.TheVariants as loading
-use Rattle.store.specs.declared.fault.OpenFault.{OpenFault}
 use Rattle.store.specs.declared.fault.OpenFault.TheVariants as opening
-use Rattle.store.specs.declared.home.Home.{Home}
-use Rattle.store.specs.declared.keeper.Keeper.{Ghosts}
 
 -- a database that has no table
 abbrev pub HasNoTable : Trees → Type 0
@@ -74,8 +65,7 @@ HasTable trees =
 
 -- it was so if a connection that has been dropped had been given back what was written
 abbrev pub TellsTable : {C : Type 0} → (C → State) → Image → Type 0
-TellsTable {C} state files =
-    (dropped : C) × (HasCleanDisk (state dropped) → HeldAs files HasTable)
+TellsTable {C} state files = (dropped : C) × (HasCleanDisk (state dropped) → HeldAs files HasTable)
 
 -- they are in the tables of this desk
 abbrev pub StandsIn : Home → Stored → List Entry → Trees → Type 0

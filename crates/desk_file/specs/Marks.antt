@@ -1,11 +1,8 @@
 -- The mark of a desk's file that is in use, and the log that belongs to it (the project's own).
-use Rattle.std.specs.Prelude.{◌≡◌, ◌≢◌, ◌⊎◌, ℕ, ◌+◌, ◌%◌, ◌^◌, ◌<◌, ◌≤◌, IsTrue, List}
-use Rattle.std.specs.Prelude.{length, slice_index}
-use Rattle.sqlite_disk.specs.Disk.{Only, Torn}
-use Rattle.sqlite_disk.specs.declared.Disk.{Ghosts}
-use Rattle.sqlite_disk.specs.declared.Files.{Files}
-use Rattle.sqlite_wal.specs.Format.{IsSigned, be32}
-use Rattle.sqlite_wal.specs.Reads.{IsClean}
+use Rattle.std.specs.Prelude.{◌≡◌, ◌≢◌, ◌⊎◌, ℕ, ◌+◌, ◌%◌, ◌^◌, ◌<◌, ◌≤◌, IsTrue, List, length}
+use Rattle.std.specs.Prelude.{slice_index}
+use Rattle.sqlite_disk.specs.{Disk.Only, Disk.Torn, declared.Disk.Ghosts, declared.Files.Files}
+use Rattle.sqlite_wal.specs.{Format.IsSigned, Format.be32, Reads.IsClean}
 use Rattle.sqlite_wal.specs.Recovery.{IsIgnored, header}
 use Rattle.desk_file.specs.declared.mark.FilesState.{FilesState}
 use Rattle.desk_file.specs.declared.mark.FilesState.TheVariants as standing
@@ -25,8 +22,7 @@ uses_of db = number_of db % 0x100_0000
 
 -- What is counted are bytes.
 abbrev pub CountsInBytes : List ℕ → Type 0
-CountsInBytes db =
-    (slice_index db 61 < 256) × (slice_index db 62 < 256) × (slice_index db 63 < 256)
+CountsInBytes db = (slice_index db 61 < 256) × (slice_index db 62 < 256) × (slice_index db 63 < 256)
 
 -- The log was begun for the use of this number. A log counts how often it was emptied, and each
 -- time the first half of its salt goes up by one: what lies between the two never changes.
@@ -40,8 +36,7 @@ IsShut log = slice_index log 40 ≢ slice_index log 16
 -- The log of this use, as a desk writes it: SQLite reads it as a log, and, where it has frames,
 -- the first one is there to its end.
 abbrev pub IsLog : ℕ → List ℕ → Type 0
-IsLog n log =
-    IsOfUse n log × (¬ IsIgnored log) × (IsShut log ⊎ (be32 log 8 + 56 ≤ length log))
+IsLog n log = IsOfUse n log × (¬ IsIgnored log) × (IsShut log ⊎ (be32 log 8 + 56 ≤ length log))
 
 -- The log of this use, emptied once all that it had was copied into the file: it is about to get a
 -- new header, or nothing follows its header.
@@ -53,14 +48,12 @@ IsEmptied n log =
 -- SQLite reads it as a log, and reads its first frame, which is there to its end.
 abbrev pub HasFrame : List ℕ → Type 0
 HasFrame log =
-    (¬ IsIgnored log) × (slice_index log 40 ≡ slice_index log 16)
-    × (be32 log 8 + 56 ≤ length log)
+    (¬ IsIgnored log) × (slice_index log 40 ≡ slice_index log 16) × (be32 log 8 + 56 ≤ length log)
 
 -- The file was in use and is not, so that it has everything, and a log with a frame is beside it:
 -- that of another file, or this file is older.
 abbrev pub IsStrange : (log db : List ℕ) → Type 0
-IsStrange log db =
-    (64 ≤ length db) × (slice_index db 60 ≡ 0) × (number_of db ≢ 0) × HasFrame log
+IsStrange log db = (64 ≤ length db) × (slice_index db 60 ≡ 0) × (number_of db ≢ 0) × HasFrame log
 
 -- how the log beside a file is that is in use under this number
 abbrev pub StandsBeside : FilesState → ℕ → List ℕ → Type 0
@@ -86,11 +79,9 @@ abbrev pub AreApart : (log db : List ℕ) → Type 0
 AreApart log db = Stands standing.LogLost log db ⊎ Stands standing.StrangeLog log db
 
 -- the two files that were looked at were so, if they gave back what they hold
-abbrev pub Tells : {D : Type 0} → Ghosts D → (List ℕ → List ℕ → Type 0) → (log db : List ℕ)
-    → Type 0
+abbrev pub Tells : {D : Type 0} → Ghosts D → (List ℕ → List ℕ → Type 0) → (log db : List ℕ) → Type 0
 Tells {D} g Are log db =
-    (dropped : Files D)
-    × (IsClean g dropped.log → IsClean g dropped.db → Are log db)
+    (dropped : Files D) × (IsClean g dropped.log → IsClean g dropped.db → Are log db)
 
 -- What a kill leaves of the two while a use begins: no mark, or the mark of this use and its log.
 abbrev pub IsBegun : ℕ → (log db : List ℕ) → Type 0
@@ -108,28 +99,24 @@ pub record IsNextUse {D : Type 0} (g : Ghosts D) (old new : Files D) (uses : ℕ
   pub db_synced : Only (g.seen new.db) (g.may_leave new.db)
   pub others : Torn 60 4 (g.seen old.db) (g.seen new.db)
   pub number : uses_of (g.seen new.db) ≡ uses
-  pub counted : IsClean g new.db → 64 ≤ length (g.seen old.db)
-      → uses ≡ uses_of (g.seen old.db) + 1
+  pub counted : IsClean g new.db → 64 ≤ length (g.seen old.db) → uses ≡ uses_of (g.seen old.db) + 1
 
 -- What a kill leaves of the two while the next use begins: the last use's mark and its log, or no
 -- mark, or the mark of the next use and its log.
 abbrev pub IsBetween : {D : Type 0} (g : Ghosts D) → Files D → (log db : List ℕ) → Type 0
 IsBetween g old log db =
     ((d : List ℕ) × g.may_leave old.db d × (slice_index db 60 ≡ slice_index d 60)
-    × g.may_leave old.log log)
-    ⊎ ((¬ IsMarked db) ⊎ (IsMarked db × IsLog (number_of db) log))
+    × g.may_leave old.log log) ⊎ ((¬ IsMarked db) ⊎ (IsMarked db × IsLog (number_of db) log))
 
 -- whatever a crash leaves of the file has its field, and counts at least this many uses
 abbrev pub HasCounted : {D : Type 0} → Ghosts D → ℕ → D → Type 0
-HasCounted g uses db =
-    (c : List ℕ) → g.may_leave db c → (64 ≤ length c) × (uses ≤ uses_of c)
+HasCounted g uses db = (c : List ℕ) → g.may_leave db c → (64 ≤ length c) × (uses ≤ uses_of c)
 
 -- What a kill leaves of an unmarked file while it gets the mark of this number: what it left
 -- before, or no mark, or that mark.
 abbrev pub MayGetMark : {D : Type 0} → Ghosts D → ℕ → (old new : D) → Type 0
 MayGetMark g number old new =
-    Mixes g → 64 ≤ length (g.seen old) → ¬ IsMarked (g.seen old)
-    → (c : List ℕ) → g.may_leave new c
+    Mixes g → 64 ≤ length (g.seen old) → ¬ IsMarked (g.seen old) → (c : List ℕ) → g.may_leave new c
     → g.may_leave old c ⊎ ((¬ IsMarked c) ⊎ (IsMarked c × (number_of c ≡ number)))
 
 -- What a kill leaves of an unmarked file and its log while the use of this number begins: what it
@@ -144,10 +131,8 @@ MayBegin g number old new =
 -- leaves of the two while the next use begins is between the two uses.
 abbrev pub MayBeginNext : {D : Type 0} → Ghosts D → (old new : Files D) → Type 0
 MayBeginNext g old new =
-    Mixes g → 64 ≤ length (g.seen old.db)
-    → ((d : List ℕ) → g.may_leave old.db d → 64 ≤ length d)
-    → (log db : List ℕ) → g.may_leave new.log log → g.may_leave new.db db
-    → IsBetween g old log db
+    Mixes g → 64 ≤ length (g.seen old.db) → ((d : List ℕ) → g.may_leave old.db d → 64 ≤ length d)
+    → (log db : List ℕ) → g.may_leave new.log log → g.may_leave new.db db → IsBetween g old log db
 
 -- whatever a kill leaves of the file counts as many uses as were seen in it, as it did before
 abbrev pub KeepsCount : {D : Type 0} → Ghosts D → (old new : D) → Type 0

@@ -1,20 +1,13 @@
 -- The store of a desk, closed with everything in its file (the project's own).
 use Rattle.std.specs.Prelude.{ℕ, List}
-use Rattle.sqlite.specs.Closing.{HoldsAlone}
-use Rattle.sqlite.specs.Files.{image_of}
-use Rattle.sqlite.specs.Recovery.{Image}
-use Rattle.sqlite.specs.Tree.{Trees}
-use Rattle.sqlite_disk.specs.Disk.{Only, Torn}
-use Rattle.sqlite_disk.specs.declared.Disk as disk
-use Rattle.sqlite_disk.specs.declared.Files.{Files}
+use Rattle.sqlite.specs.{Closing.HoldsAlone, Files.image_of, Recovery.Image, Tree.Trees}
+use Rattle.sqlite_disk.specs.{Disk.Only, Disk.Torn, declared.Files.Files}
 use Rattle.sqlite_wal.specs.Reads.{AreClean}
-use Rattle.acceptor.specs.declared.entry.Entry.{Entry}
-use Rattle.acceptor.specs.declared.stored.Stored.{Stored}
-use Rattle.store.specs.Holding.{Holds}
-use Rattle.store.specs.declared.home.Home.{Home}
+use Rattle.acceptor.specs.declared.{entry.Entry.Entry, stored.Stored.Stored}
+use Rattle.store.specs.{Holding.Holds, declared.home.Home.Home}
+use Rattle.desk_file.specs.{Files.KeepsFirst, Marks.IsMarked, Marks.IsNextUse}
+use Rattle.sqlite_disk.specs.declared.Disk as disk
 use Rattle.store.specs.declared.keeper.Keeper as keeper
-use Rattle.desk_file.specs.Files.{KeepsFirst}
-use Rattle.desk_file.specs.Marks.{IsMarked, IsNextUse}
 
 -- What the keeper kept is in the database that the file has alone, with no log beside it.
 abbrev pub HasAllOf : {D K : Type 0} → disk.Ghosts D → keeper.Ghosts K → K → Files D → Type 0

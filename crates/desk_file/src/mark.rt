@@ -3,11 +3,10 @@
 //! While a desk serves, its log holds what the file does not have yet, so that the file without the
 //! log is an older desk's. The mark says in the file itself that it is in use, and of which log.
 
-ghost use Rattle.std.specs.Prelude.{◌≡◌, ◌⊎◌, ◌↔◌, ◌≤◌, ◌<◌, ◌%◌, ◌^◌, ◌∷◌, [], ℕ, List, length};
-ghost use Rattle.std.specs.Prelude.{IfOk, IsErr, IsTrue, OnOk, slice_index};
+ghost use Rattle.std.specs.Prelude.{◌≡◌, ◌↔◌, ◌≤◌, ◌<◌, ◌%◌, ◌^◌, ◌∷◌, [], ℕ, List, length, IfOk};
+ghost use Rattle.std.specs.Prelude.{IsErr, IsTrue, OnOk, slice_index};
 ghost use Rattle.sqlite_disk.specs.Disk.{Follows, Holds, Mixed, Only, Torn};
-ghost use Rattle.sqlite_wal.specs.Format.{be32};
-ghost use Rattle.sqlite_wal.specs.Reads.{IsClean, OnlyReads};
+ghost use Rattle.sqlite_wal.specs.{Format.be32, Reads.IsClean, Reads.OnlyReads};
 ghost use Rattle.desk_file.specs.Marks.{CountsInBytes, HasFrame, IsLog, IsMarked, KeepsCountUpTo};
 ghost use Rattle.desk_file.specs.Marks.{MayBegin, MayGetMark, Mixes, Stands, StandsBeside};
 ghost use Rattle.desk_file.specs.Marks.{number_of, uses_of};

@@ -1,14 +1,9 @@
 //! A desk's file, opened.
 
-ghost use Rattle.std.specs.Prelude.{◌≡◌, ◌≢◌, ◌↔◌, false, Err, IfOk, IfErr, IfNone, IfSome};
-ghost use Rattle.std.specs.Prelude.{IsTrue};
+ghost use Rattle.std.specs.Prelude.{◌≡◌, ◌≢◌, ◌↔◌, false, Err, IfOk, IfErr, IfNone, IfSome, IsTrue};
 ghost use Rattle.sqlite.specs.Files.{file_state, IsOpened};
-ghost use Rattle.sqlite.specs.Held.{state};
-ghost use Rattle.sqlite.specs.Start.{FindsIn};
-ghost use Rattle.sqlite.specs.State.{HasCleanDisk};
-ghost use Rattle.sqlite.specs.WalFiles.{image_at};
-ghost use Rattle.store.specs.Kept.{IsBare};
-ghost use Rattle.store.specs.Ranges.{IsHome};
+ghost use Rattle.sqlite.specs.{Held.state, Start.FindsIn, State.HasCleanDisk, WalFiles.image_at};
+ghost use Rattle.store.specs.{Kept.IsBare, Ranges.IsHome};
 ghost use Rattle.desk_file.specs.Files.{KeepsFirst, KeepsHeld, KeepsThere, TellsOther, TellsTable};
 
 use sqlite::{Alter, Connection, FileFrom, FileStore, Start};

@@ -1,12 +1,10 @@
 //! A desk's file, put into use and taken out of it.
 
-ghost use Rattle.std.specs.Prelude.{◌≡◌, ◌+◌, ◌%◌, ◌^◌, ◌<◌, ◌≤◌, ℕ, Err, IfOk, IsTrue, List};
-ghost use Rattle.std.specs.Prelude.{OnOk, length};
+ghost use Rattle.std.specs.Prelude.{◌≡◌, ◌+◌, ◌%◌, ◌^◌, ◌<◌, ◌≤◌, Err, IfOk, IsTrue, OnOk, length};
 ghost use Rattle.sqlite.specs.Closing.{IsCopied};
 ghost use Rattle.sqlite_wal.specs.Reads.{AreClean, IsClean};
 ghost use Rattle.desk_file.specs.Marks.{AreApart, AreWhole, IsNextUse, KeepsCount, MayBeginNext};
-ghost use Rattle.desk_file.specs.Marks.{Mixes, Tells};
-ghost use Rattle.desk_file.specs.Uses.{IsPutAway, IsPutInUse};
+ghost use Rattle.desk_file.specs.{Marks.Mixes, Marks.Tells, Uses.IsPutAway, Uses.IsPutInUse};
 
 use crate::mark::{FilesState, begin_use, end_use, look, uses_of};
 use sqlite::{Connection, FileFrom, FileStore, Files, Start};

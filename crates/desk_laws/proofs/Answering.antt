@@ -2,48 +2,40 @@
 use Rattle.std.proofs.Common.{◌≡◌, ◌⊎◌, inl, inr, refl, sym, ap, subst, ◌∙◌, ℕ, ◌==◌, ◌&&◌, ◌<◌}
 use Rattle.std.proofs.Common.{nat_lt, Bool, true, false, if◌then◌else◌, List, [], ◌∷◌, ◌++◌, length}
 use Rattle.std.proofs.Common.{append_assoc, arith, Option, None, Some, Result}
-use Rattle.std.proofs.lemmas.Bool.Decides.{nat_tests}
+use Rattle.std.proofs.lemmas.{Bool.Decides.nat_tests, Bool.and_from, Bool.and_parts}
 use Rattle.std.proofs.lemmas.List.{append-nil, length-append}
-use Rattle.std.specs.Int.{w32, to_be_bytes}
-use Rattle.std.specs.List.{AllByRecursion, flat_map}
+use Rattle.std.specs.{Int.w32, Int.to_be_bytes, List.AllByRecursion, List.flat_map}
 use Rattle.answers.specs.Seen.{Seen}
 use Rattle.client.specs.Answers.{answers, fits, judged, judged_what}
 use Rattle.client.specs.declared.fault.ClientFault.{ClientFault}
 use Rattle.seal_laws.proofs.Hearing.{both_hear}
 use Rattle.serving.specs.Answering.{answer_first, answer_of, copied, printed_as, said_in, sheet}
-use Rattle.serving.specs.Answering.{refusal_of, standing, state, told_what}
+use Rattle.serving.specs.Answering.{refusal_of, state, told_what}
 use Rattle.serving.specs.Asking.{is_ours, ours, request, strange}
 use Rattle.serving.specs.Connection.{AreBegun, Begun, answer_bytes, answer_frame, asked, frames_of}
 use Rattle.serving.specs.Connection.{framed_answer, serve_frame, serve_frames}
-use Rattle.serving.specs.Differing.{withheld}
-use Rattle.serving.specs.Nodes.{Fate, Goes, Starves, Breaks}
+use Rattle.serving.specs.{Differing.withheld, Nodes.Fate, Nodes.Goes, Nodes.Starves, Nodes.Breaks}
 use Rattle.serving.specs.Permissions.{admits, permitted, turned_away}
 use Rattle.serving.specs.Serving.{answer, begun as before, first_fate, reply_to, served}
-use Rattle.serving.specs.declared.calls.NodeAnswer.{NodeAnswer}
+use Rattle.serving.specs.declared.{calls.NodeAnswer.NodeAnswer, permission.Permission.Permission}
 use Rattle.serving.specs.declared.calls.NodeAnswer.TheVariants.{Taken, Refused}
-use Rattle.serving.specs.declared.permission.Permission.{Permission}
-use Rattle.serving.specs.declared.request.Request.{Request}
+use Rattle.serving.specs.declared.request.Request.{Request, TheVariants.Denied}
 use Rattle.serving.specs.declared.request.Request.TheVariants.{Entered, Asked, Printed, Ticked}
 use Rattle.serving.specs.declared.request.Request.TheVariants.{Stopped, Inspected, Copied, Strange}
-use Rattle.serving.specs.declared.request.Request.TheVariants.{Denied}
 use Rattle.acceptor.specs.declared.entry.Entry.{Entry}
-use Rattle.learner.specs.declared.event.DeskEvent.TheVariants as event
 use Rattle.store.specs.declared.home.Home.{Home}
-use Rattle.wire.specs.Numbers.{refusal_in}
-use Rattle.wire.specs.Ranges.{Between, FromClient, IsFrame, ToClient, way_of}
+use Rattle.wire.{specs.Numbers.refusal_in, proofs.Streams.prefix_free}
+use Rattle.wire.specs.Ranges.{FromClient, IsFrame, Way, way_of}
 use Rattle.wire.specs.Spelling.{inside, spelling}
-use Rattle.wire.specs.declared.frame.Frame.{Frame}
-use Rattle.wire.specs.declared.frame.FrameBody.{FrameBody}
-use Rattle.wire.specs.declared.frame.FrameBody.TheVariants as what
-use Rattle.wire.specs.declared.standing.Difference.{Difference}
-use Rattle.wire.specs.declared.values.ClientRefusal.{ClientRefusal}
-use Rattle.wire.specs.declared.values.ClientRefusal.TheVariants as refusal
-use Rattle.wire.specs.declared.values.CommandState.{CommandState}
-use Rattle.wire.specs.declared.values.Version.{Version}
-use Rattle.wire.proofs.Streams.{prefix_free}
+use Rattle.wire.specs.declared.frame.{Frame.Frame, FrameBody.FrameBody}
+use Rattle.wire.specs.declared.{standing.Difference.Difference, values.Version.Version}
+use Rattle.wire.specs.declared.values.{ClientRefusal.ClientRefusal, CommandState.CommandState}
 use Rattle.desk_laws.specs.Questions.{Answers, AnswersAreJudged, IsAnswered, IsJudged, LogIsAsked}
 use Rattle.desk_laws.specs.Questions.{QuestionsAreAnswered, QuestionsAreTaken, QuestionsUnderAKey}
 use Rattle.desk_laws.specs.Questions.{log_asked, log_given}
+use Rattle.learner.specs.declared.event.DeskEvent.TheVariants as event
+use Rattle.wire.specs.declared.frame.FrameBody.TheVariants as what
+use Rattle.wire.specs.declared.values.ClientRefusal.TheVariants as refusal
 
 -- ---- what a question is answered with
 
@@ -100,129 +92,98 @@ log_suits x Breaks position version = refused (what.Log position) refusal.NoMemo
 
 -- ---- a question that names the desk
 
--- what a request is answered, where a desk differs or none does
-abbrev IsSuitedAt : Home → Seen → List Fate → Option Difference → FrameBody → Request → Type 0
-IsSuitedAt home x fates differs q r = IsSuited q (answer home x fates (withheld differs r))
+abbrev from_client : Way → Bool
+from_client FromClient = true
+from_client _ = false
 
-denied_suits : (home : Home) (x : Seen) (fates : List Fate) (differs : Option Difference)
-    (q : FrameBody) → IsSuitedAt home x fates differs q Denied
-denied_suits home x fates None q = refused q refusal.NotAllowed
-denied_suits home x fates (Some d) q = refused q refusal.NotAllowed
+-- no question goes another way
+no_question : (w : Way) → w ≡ FromClient → from_client w ≡ false → ⊥
+no_question w is other = let bad : true ≡ false = sym (ap from_client is) ∙ other in cc
 
-entered_suits : (home : Home) (x : Seen) (fates : List Fate) (differs : Option Difference)
-    (e : Entry) → IsSuitedAt home x fates differs (what.Submit e) (Entered e)
-entered_suits home x fates None e =
-    first_suits (what.Submit e) (what.Taken e.id)
-    (answer_of (reply_to home (event.Submit e) (before x fates)).result)
-    (served home x fates (Entered e)).seen (taken_suits e)
-entered_suits home x fates (Some d) e = refused (what.Submit e) refusal.HallDiffers
+module _ (home : Home) (x : Seen) (fates : List Fate) where
+  -- what a request is answered, where a desk differs or none does
+  abbrev IsSuitedAt : Option Difference → FrameBody → Request → Type 0
+  IsSuitedAt differs q r = IsSuited q (answer home x fates (withheld differs r))
 
--- it is taken as what it says, or turned away
-by_turns : (home : Home) (x : Seen) (fates : List Fate) (differs : Option Difference)
-    (q : FrameBody) (r : Request) (may : Bool) → turned_away r ≡ Denied
-    → IsSuitedAt home x fates differs q r
-    → IsSuitedAt home x fates differs q (if may then r else turned_away r)
-by_turns home x fates differs q r true away own = own
-by_turns home x fates differs q r false away own =
-    subst (λ (p : Request). IsSuitedAt home x fates differs q p) (sym away)
-    (denied_suits home x fates differs q)
+  denied_suits : (differs : Option Difference) (q : FrameBody) → IsSuitedAt differs q Denied
+  denied_suits None q = refused q refusal.NotAllowed
+  denied_suits (Some d) q = refused q refusal.NotAllowed
 
--- what none but an entry is withheld for
-both : (home : Home) (x : Seen) (fates : List Fate) (differs : Option Difference)
-    (q : FrameBody) (r : Request) → ((d : Difference) → withheld (Some d) r ≡ r)
-    → IsSuited q (answer home x fates r) → IsSuitedAt home x fates differs q r
-both home x fates None q r same own = own
-both home x fates (Some d) q r same own =
-    subst (λ (p : Request). IsSuited q (answer home x fates p)) (sym (same d)) own
+  entered_suits : (differs : Option Difference)
+      (e : Entry) → IsSuitedAt differs (what.Submit e) (Entered e)
+  entered_suits None e =
+      first_suits (what.Submit e) (what.Taken e.id)
+      (answer_of (reply_to home (event.Submit e) (before x fates)).result)
+      (served home x fates (Entered e)).seen (taken_suits e)
+  entered_suits (Some d) e = refused (what.Submit e) refusal.HallDiffers
 
-stands : (home : Home) (x : Seen) (fates : List Fate) (differs : Option Difference)
-    → IsSuitedAt home x fates differs what.Status (Inspected None)
-stands home x fates None = λ version. inr refl
-stands home x fates (Some d) = λ version. inr refl
+  -- it is taken as what it says, or turned away
+  by_turns : (differs : Option Difference)
+      (q : FrameBody) (r : Request) (may : Bool) → turned_away r ≡ Denied → IsSuitedAt differs q r
+      → IsSuitedAt differs q (if may then r else turned_away r)
+  by_turns differs q r true away own = own
+  by_turns differs q r false away own =
+      subst (λ (p : Request). IsSuitedAt differs q p) (sym away) (denied_suits differs q)
 
-never_between : Between ≡ FromClient → ⊥
-never_between h = let k : Between ≡ FromClient = h in cc
+  -- what none but an entry is withheld for
+  both : (differs : Option Difference)
+      (q : FrameBody) (r : Request) → ((d : Difference) → withheld (Some d) r ≡ r)
+      → IsSuited q (answer home x fates r) → IsSuitedAt differs q r
+  both None q r same own = own
+  both (Some d) q r same own =
+      subst (λ (p : Request). IsSuited q (answer home x fates p)) (sym (same d)) own
 
-never_back : ToClient ≡ FromClient → ⊥
-never_back h = let k : ToClient ≡ FromClient = h in cc
+  stands : (differs : Option Difference) → IsSuitedAt differs what.Status (Inspected None)
+  stands None = λ version. inr refl
+  stands (Some d) = λ version. inr refl
 
-suited : (home : Home) (x : Seen) (fates : List Fate) (differs : Option Difference) (q : FrameBody)
-    (from to : ℕ) (may : Bool) → way_of q ≡ FromClient
-    → IsSuitedAt home x fates differs q
-    (if may then ours from to q else turned_away (ours from to q))
-suited home x fates differs (what.Submit e) from to may way =
-    by_turns home x fates differs (what.Submit e) (Entered e) may refl
-    (entered_suits home x fates differs e)
-suited home x fates differs (what.Ask id) from to may way =
-    by_turns home x fates differs (what.Ask id) (Asked id) may refl
-    (both home x fates differs (what.Ask id) (Asked id) (λ d. refl)
-    (told_suits id (first_fate fates) (state x id)))
-suited home x fates differs (what.Await id seconds) from to may way =
-    by_turns home x fates differs (what.Await id seconds) (Asked id) may refl
-    (both home x fates differs (what.Await id seconds) (Asked id) (λ d. refl)
-    (told_suits id (first_fate fates) (state x id)))
-suited home x fates differs (what.Sheet sport round position style) from to may way =
-    by_turns home x fates differs (what.Sheet sport round position style)
-    (Printed sport round position style) may refl
-    (both home x fates differs (what.Sheet sport round position style)
-    (Printed sport round position style) (λ d. refl)
-    (sheet_suits (what.Sheet sport round position style) (nat_lt (length x.desk.log) position)
-    (first_fate fates) (sheet x sport round position style) (λ bytes. refl)))
-suited home x fates differs what.Tick from to may way =
-    by_turns home x fates differs what.Tick Ticked may refl
-    (both home x fates differs what.Tick Ticked (λ d. refl)
-    (first_suits what.Tick what.Fine (answer_of (reply_to home event.Tick (before x fates)).result)
-    (served home x fates Ticked).seen (λ version. inr refl)))
-suited home x fates differs what.Stop from to may way =
-    by_turns home x fates differs what.Stop Stopped may refl
-    (both home x fates differs what.Stop Stopped (λ d. refl) (λ version. inr refl))
-suited home x fates differs what.Status from to may way =
-    by_turns home x fates differs what.Status (Inspected None) may refl
-    (stands home x fates differs)
-suited home x fates differs (what.Log position) from to may way =
-    by_turns home x fates differs (what.Log position) (Copied position) may refl
-    (both home x fates differs (what.Log position) (Copied position) (λ d. refl)
-    (log_suits x (first_fate fates) position))
-suited home x fates differs (what.Prepare b pos) from to may way = absurd (never_between way)
-suited home x fates differs (what.Promise b pos vote) from to may way = absurd (never_between way)
-suited home x fates differs (what.Accept b pos e) from to may way = absurd (never_between way)
-suited home x fates differs (what.Accepted b pos) from to may way = absurd (never_between way)
-suited home x fates differs (what.Nack b pos promised) from to may way = absurd (never_between way)
-suited home x fates differs (what.Behind len) from to may way = absurd (never_between way)
-suited home x fates differs (what.Decided pos es) from to may way = absurd (never_between way)
-suited home x fates differs (what.Taken id) from to may way = absurd (never_back way)
-suited home x fates differs (what.Told id s) from to may way = absurd (never_back way)
-suited home x fates differs (what.SheetText bytes) from to may way = absurd (never_back way)
-suited home x fates differs (what.Refused r) from to may way = absurd (never_back way)
-suited home x fates differs what.Fine from to may way = absurd (never_back way)
-suited home x fates differs (what.Standing standing) from to may way = absurd (never_back way)
-suited home x fates differs (what.Entries pos len es) from to may way = absurd (never_back way)
+  suited : (differs : Option Difference) (q : FrameBody)
+      (from to : ℕ) (may : Bool) → way_of q ≡ FromClient → IsSuitedAt differs q
+      (if may then ours from to q else turned_away (ours from to q))
+  suited differs (what.Submit e) from to may way =
+      by_turns differs (what.Submit e) (Entered e) may refl (entered_suits differs e)
+  suited differs (what.Ask id) from to may way =
+      by_turns differs (what.Ask id) (Asked id) may refl
+      (both differs (what.Ask id) (Asked id) (λ d. refl)
+      (told_suits id (first_fate fates) (state x id)))
+  suited differs (what.Await id seconds) from to may way =
+      by_turns differs (what.Await id seconds) (Asked id) may refl
+      (both differs (what.Await id seconds) (Asked id) (λ d. refl)
+      (told_suits id (first_fate fates) (state x id)))
+  suited differs (what.Sheet sport round position style) from to may way =
+      by_turns differs (what.Sheet sport round position style)
+      (Printed sport round position style) may refl
+      (both differs (what.Sheet sport round position style)
+      (Printed sport round position style) (λ d. refl)
+      (sheet_suits (what.Sheet sport round position style) (nat_lt (length x.desk.log) position)
+      (first_fate fates) (sheet x sport round position style) (λ bytes. refl)))
+  suited differs what.Tick from to may way =
+      by_turns differs what.Tick Ticked may refl (both differs what.Tick Ticked (λ d. refl)
+      (first_suits what.Tick what.Fine (answer_of (reply_to home event.Tick (before x fates)).result)
+      (served home x fates Ticked).seen (λ version. inr refl)))
+  suited differs what.Stop from to may way =
+      by_turns differs what.Stop Stopped may refl
+      (both differs what.Stop Stopped (λ d. refl) (λ version. inr refl))
+  suited differs what.Status from to may way =
+      by_turns differs what.Status (Inspected None) may refl (stands differs)
+  suited differs (what.Log position) from to may way =
+      by_turns differs (what.Log position) (Copied position) may refl
+      (both differs (what.Log position) (Copied position) (λ d. refl)
+      (log_suits x (first_fate fates) position))
+  suited differs _ from to may way = absurd (no_question _ way refl)
 
 -- ---- a question that names another desk
 
 is_strange : (q : FrameBody) → way_of q ≡ FromClient → strange q ≡ Strange
 is_strange (what.Submit e) way = refl
 is_strange (what.Ask id) way = refl
-is_strange (what.Await id seconds) way = refl
-is_strange (what.Sheet sport round position style) way = refl
+is_strange (what.Sheet event round position style) way = refl
 is_strange what.Tick way = refl
 is_strange what.Stop way = refl
 is_strange what.Status way = refl
 is_strange (what.Log position) way = refl
-is_strange (what.Prepare b pos) way = absurd (never_between way)
-is_strange (what.Promise b pos vote) way = absurd (never_between way)
-is_strange (what.Accept b pos e) way = absurd (never_between way)
-is_strange (what.Accepted b pos) way = absurd (never_between way)
-is_strange (what.Nack b pos promised) way = absurd (never_between way)
-is_strange (what.Behind len) way = absurd (never_between way)
-is_strange (what.Decided pos es) way = absurd (never_between way)
-is_strange (what.Taken id) way = absurd (never_back way)
-is_strange (what.Told id s) way = absurd (never_back way)
-is_strange (what.SheetText bytes) way = absurd (never_back way)
-is_strange (what.Refused r) way = absurd (never_back way)
-is_strange what.Fine way = absurd (never_back way)
-is_strange (what.Standing standing) way = absurd (never_back way)
-is_strange (what.Entries pos len es) way = absurd (never_back way)
+is_strange (what.Await id seconds) way = refl
+is_strange _ way = absurd (no_question _ way refl)
 
 -- ---- judged
 
@@ -236,28 +197,19 @@ refusal_judged f given it = go given.what it.1 (answers f given)
         ap (λ (v : FrameBody). judged_what v own) is
         ∙ sym (ap (λ (v : FrameBody). judged_what v true) is)
 
-three : (a b c : Bool) → a ≡ true → b ≡ true → c ≡ true → (a && b && c) ≡ true
-three a b c h k l = ap (λ t. t && b && c) h ∙ ap (λ t. t && c) k ∙ l
-
-two_true : (a b : Bool) → a ≡ true → b ≡ true → (a && b) ≡ true
-two_true a b h k = ap (λ t. t && b) h ∙ k
-
-both_of : (a b : Bool) → (a && b) ≡ true → (a ≡ true) × (b ≡ true)
-both_of true b h = (refl, h)
-both_of false b h = absurd (let k : false ≡ true = h in cc)
-
 suited_judged : (f given : Frame) → Suits f.what given.what → (given.hall == f.hall) ≡ true
     → (given.from == f.to) ≡ true → judged f given ≡ judged_what given.what true
 suited_judged f given (inl it) hall from = refusal_judged f given it
 suited_judged f given (inr good) hall from =
     ap (λ (own : Bool). judged_what given.what own)
-    (three (given.hall == f.hall) (given.from == f.to) (fits f.what given.what) hall from good)
+    (and_from (given.hall == f.hall && given.from == f.to) (fits f.what given.what)
+    (and_from (given.hall == f.hall) (given.from == f.to) hall from) good)
 
 own_answer : (home : Home) (f : Frame) (w : Option FrameBody) → IsSuited f.what w
     → is_ours home f ≡ true → IsAnswered f (framed_answer f.version home w)
 own_answer home f None good mine = absurd good
 own_answer home f (Some w) good mine =
-    let two = both_of (f.hall == home.hall) (f.to == home.desk) mine in
+    let two = and_parts (f.hall == home.hall) (f.to == home.desk) mine in
     let hall : (home.hall == f.hall) ≡ true = grind (arith, nat_tests, two.0) in
     let from : (home.desk == f.to) ≡ true = grind (arith, nat_tests, two.1) in
     let given = answer_frame f.version home (said_in f.version w) in
@@ -306,8 +258,7 @@ answers_are_judged home x b way = go (is_ours home b.frame) refl
         subst (λ (t : Bool). IsAnsweredAt home x b (of_request (by t))) (sym mine)
         (own_answer home f (answer home x b.fates (of_request (ours f.from f.to f.what)))
         (suited home x b.fates b.differs f.what f.from f.to
-        (admits b.may (ours f.from f.to f.what)) way)
-        mine)
+        (admits b.may (ours f.from f.to f.what)) way) mine)
     go false other =
         subst (λ (t : Bool). IsAnsweredAt home x b (of_request (by t))) (sym other)
         (subst (λ (r : Request). IsAnsweredAt home x b (of_request r)) (sym (is_strange f.what way))
@@ -316,7 +267,7 @@ answers_are_judged home x b way = go (is_ours home b.frame) refl
 pub questions_are_taken : QuestionsAreTaken
 questions_are_taken home b hall to all none =
     let mine : is_ours home b.frame ≡ true =
-    two_true (b.frame.hall == home.hall) (b.frame.to == home.desk)
+    and_from (b.frame.hall == home.hall) (b.frame.to == home.desk)
     (let same : (b.frame.hall == home.hall) ≡ true = grind (arith, nat_tests, hall) in same)
     (let same : (b.frame.to == home.desk) ≡ true = grind (arith, nat_tests, to) in same) in
     ap (λ (d : Option Difference). withheld d (permitted b.may (request home b.frame))) none
@@ -327,7 +278,7 @@ questions_are_taken home b hall to all none =
 
 -- ---- bytes
 
-long : (f : Frame) → 0 < length (spelling f)
+pub long : (f : Frame) → 0 < length (spelling f)
 long f =
     let four : length (to_be_bytes w32 (length (inside f))) ≡ 4 = refl in
     omega (arith, four, length-append (to_be_bytes w32 (length (inside f))) (inside f))
@@ -376,8 +327,7 @@ nothing_first f bytes more rest none first =
     )
 
 answered_alone : (home : Home) (x : Seen) (f : Frame) (b : Begun) (bytes more : List ℕ)
-    (result : Result FrameBody ClientFault)
-    → way_of f.what ≡ FromClient → b.frame ≡ f
+    (result : Result FrameBody ClientFault) → way_of f.what ≡ FromClient → b.frame ≡ f
     → AllByRecursion IsFrame (serve_frame home x b).answers
     → answer_bytes (serve_frame home x b).answers ≡ bytes ++ more → IsJudged result f bytes
     → Answers home x f (b ∷ []) result

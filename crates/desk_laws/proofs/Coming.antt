@@ -3,35 +3,26 @@ use Rattle.std.proofs.Common.{◌≡◌, ◌⊎◌, inl, inr, refl, sym, ap, sub
 use Rattle.std.proofs.Common.{Bool, true, false, if◌then◌else◌, List, [], ◌∷◌, ◌++◌, length, map}
 use Rattle.std.proofs.Common.{append_assoc, arith}
 use Rattle.std.proofs.lemmas.List.{append-nil, length-append}
-use Rattle.std.specs.Int.{w32, to_be_bytes}
-use Rattle.std.specs.List.{AllByRecursion, flat_map}
-use Rattle.std.specs.Prelude.{Some}
-use Rattle.connections.specs.Connections.{begun_of}
-use Rattle.connections.proofs.Interleaving.{begun_both}
+use Rattle.std.specs.{List.AllByRecursion, List.flat_map, Prelude.Some}
+use Rattle.connections.{specs.Connections.begun_of, proofs.Interleaving.begun_both}
 use Rattle.guarded.specs.LockedLaw.{IsHallKey}
-use Rattle.links.specs.Histories.{Dropped, Fate, Full, History, IsCut, IsCutAt, IsRest, NoMemory}
-use Rattle.links.specs.Histories.{SentOn, Told, Unreachable, Waits, if_sent_on, sent_on}
-use Rattle.links.specs.Histories.{waiting_of, written}
-use Rattle.links.specs.Histories as Histories
-use Rattle.links.specs.Links.{LinkState, first_of}
+use Rattle.links.specs.Histories.{Dropped, Fate, History, IsCut, IsCutAt, IsRest}
+use Rattle.links.specs.Histories.{SentOn, Told, Unreachable, Waits, if_sent_on, sent_on, waiting_of}
+use Rattle.links.specs.{Histories.written, Links.LinkState, Links.first_of}
 use Rattle.links.proofs.Kept.{frames_are_kept}
-use Rattle.multiplex.proofs.Placed.{all_front}
-use Rattle.multiplex.proofs.UnderHall.{each_delivers}
+use Rattle.multiplex.proofs.{Placed.all_front, UnderHall.each_delivers}
 use Rattle.seal.specs.Records.{AreBodies, preface_of, record_of, records}
-use Rattle.seal.specs.Streams.{joined}
-use Rattle.seal.specs.declared.channel.Channel.{Channel}
+use Rattle.seal.specs.{Streams.joined, declared.channel.Channel.Channel}
 use Rattle.seal.proofs.Whole.{length-record, one_record}
 use Rattle.seal_laws.proofs.Hearing.{one_preface, went}
-use Rattle.sealed.specs.Admitting.{comes_under}
-use Rattle.sealed.specs.declared.callers.DeskKeys.{DeskKeys}
+use Rattle.sealed.specs.{Admitting.comes_under, declared.callers.DeskKeys.DeskKeys}
 use Rattle.sealed.proofs.ends.Speaking.{calls_speak}
 use Rattle.serving.specs.Connection.{Begun, frames_of}
 use Rattle.serving.proofs.Connecting.{frames_of_both}
-use Rattle.wire.specs.Ranges.{IsFrame}
+use Rattle.wire.{specs.Ranges.IsFrame, specs.declared.frame.Frame.Frame, proofs.Streams.prefix_free}
 use Rattle.wire.specs.Spelling.{inside, spelling}
-use Rattle.wire.specs.declared.frame.Frame.{Frame}
-use Rattle.wire.proofs.Streams.{prefix_free}
-use Rattle.desk_laws.specs.Ways.{AreOf, MessagesComeAsPushed}
+use Rattle.desk_laws.{specs.Ways.AreOf, specs.Ways.MessagesComeAsPushed, proofs.Answering.long}
+use Rattle.links.specs.Histories as Histories
 
 -- ---- what a link wrote on a connection
 
@@ -46,21 +37,20 @@ of_more : (xs : List Frame) (f : Frame) (fs : List Frame) → AreOf xs fs → Ar
 of_more [] f fs h = tt
 of_more (x ∷ xs) f fs h = inr h
 
+not_sent : (rest : List (List ℕ)) (f : Frame) (fs : List Frame) → Spelled fs rest
+    → Spelled (f ∷ fs) rest
+not_sent rest f fs s = record {
+  some = s.some;
+  order = of_more s.some f fs s.order;
+  each = s.each;
+  spelled = s.spelled;
+}
+
 with_fate : (n : ℕ) (fate : Fate) (text : List ℕ) (rest : List (List ℕ)) (f : Frame)
     (fs : List Frame) → text ≡ spelling f → IsFrame f → Spelled fs rest
     → Spelled (f ∷ fs) (if_sent_on n fate text ++ rest)
-with_fate n (Dropped cause) text rest f fs is good s = record {
-  some = s.some;
-  order = of_more s.some f fs s.order;
-  each = s.each;
-  spelled = s.spelled;
-}
-with_fate n Waits text rest f fs is good s = record {
-  some = s.some;
-  order = of_more s.some f fs s.order;
-  each = s.each;
-  spelled = s.spelled;
-}
+with_fate n (Dropped cause) text rest f fs is good s = not_sent rest f fs s
+with_fate n Waits text rest f fs is good s = not_sent rest f fs s
 with_fate n (SentOn m) text rest f fs is good s = go (n == m)
   where
     go : (b : Bool)
@@ -72,12 +62,7 @@ with_fate n (SentOn m) text rest f fs is good s = go (n == m)
       spelled =
           ap (λ (t : List ℕ). t ∷ rest) is ∙ ap (λ (ts : List (List ℕ)). spelling f ∷ ts) s.spelled;
     }
-    go false = record {
-      some = s.some;
-      order = of_more s.some f fs s.order;
-      each = s.each;
-      spelled = s.spelled;
-    }
+    go false = not_sent rest f fs s
 
 sent_spelled : (n : ℕ) (ts : List Told) (frames : List Frame)
     → Histories.frames_of ts ≡ map spelling frames → AllByRecursion IsFrame frames
@@ -88,8 +73,7 @@ sent_spelled n (t ∷ ts) [] is each = absurd cc
 sent_spelled n (t ∷ ts) (f ∷ fs) is each =
     let first : t.frame ≡ spelling f = cc in
     let later : Histories.frames_of ts ≡ map spelling fs = cc in
-    with_fate n t.fate t.frame (sent_on n ts) f fs first each.0
-    (sent_spelled n ts fs later each.1)
+    with_fate n t.fate t.frame (sent_on n ts) f fs first each.0 (sent_spelled n ts fs later each.1)
 
 -- a front part of one frame, and not all of it
 record IsPart (part : List ℕ) : Type 0 where
@@ -101,8 +85,6 @@ record IsPart (part : List ℕ) : Type 0 where
 
 cut_at : (part : List ℕ) (fate : Fate) (text : List ℕ) (f : Frame) → text ≡ spelling f → IsFrame f
     → IsCutAt part fate text → IsPart part
-cut_at part (SentOn n) text f is good h = absurd h
-cut_at part (Dropped Full) text f is good h = absurd h
 cut_at part (Dropped Unreachable) text f is good h = record {
   frame = f;
   left = h.0;
@@ -110,8 +92,7 @@ cut_at part (Dropped Unreachable) text f is good h = record {
   some = h.1;
   whole = sym h.2 ∙ is;
 }
-cut_at part (Dropped NoMemory) text f is good h = absurd h
-cut_at part Waits text f is good h = absurd h
+cut_at part _ text f is good h = absurd h
 
 is_cut : (n : ℕ) (part : List ℕ) (ts : List Told) (frames : List Frame)
     → Histories.frames_of ts ≡ map spelling frames → AllByRecursion IsFrame frames
@@ -159,8 +140,7 @@ part_of n part ts frames h s is each waits (inr (inr it)) =
         let both = ap (λ (x : List ℕ). length x) (sym none ∙ it.1.2) in
         absurd (omega (arith, both, length-append part it.1.0, it.1.1))
     go (inr first) =
-        inr
-        (record {
+        inr (record {
           frame = first.0;
           left = it.1.0;
           good = first.1;
@@ -169,11 +149,6 @@ part_of n part ts frames h s is each waits (inr (inr it)) =
         })
 
 -- ---- frames
-
-long : (f : Frame) → 0 < length (spelling f)
-long f =
-    let four : length (to_be_bytes w32 (length (inside f))) ≡ 4 = refl in
-    omega (arith, four, length-append (to_be_bytes w32 (length (inside f))) (inside f))
 
 -- frames that begin a stream of frames are the first of these
 first_frames : (fs gs : List Frame) (z part : List ℕ) → AllByRecursion IsFrame fs
@@ -278,10 +253,8 @@ come_as_pushed home locks server came sent frames earlier later one w h may =
     (records (comes_under w.client server locks.hall) 0 all.bodies) u.sixteen w.random.of_client
     one_stream in
     let front =
-    subst
-    (λ (c : List ℕ). records (comes_under c server locks.hall) 0 u.bodies ++ (u.rest ++ lost)
-    ≡ records (comes_under w.client server locks.hall) 0 all.bodies) both.0
-    (subst
+    subst (λ (c : List ℕ). records (comes_under c server locks.hall) 0 u.bodies ++ (u.rest ++ lost)
+    ≡ records (comes_under w.client server locks.hall) 0 all.bodies) both.0 (subst
     (λ (k : List ℕ). records (comes_under u.client server k) 0 u.bodies ++ (u.rest ++ lost)
     ≡ records (comes_under w.client server locks.hall) 0 all.bodies)
     (the_halls locks u.key w.one_key u.halls) (sym (append_assoc sealed u.rest lost) ∙ both.1)) in

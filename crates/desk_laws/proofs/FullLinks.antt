@@ -1,12 +1,11 @@
 -- Links that have something to send, and full ones.
-use Rattle.std.proofs.Common.{◌≡◌, ◌≢◌, refl, ap, ℕ, zero, suc, Bool, true, false}
-use Rattle.std.proofs.Common.{if◌then◌else◌, List, [], ◌∷◌, arith, drop, nat_lt, nat_le}
+use Rattle.std.proofs.Common.{◌≡◌, ◌≢◌, refl, ap, ℕ, zero, suc, Bool, true, false, if◌then◌else◌}
+use Rattle.std.proofs.Common.{List, [], ◌∷◌, arith, drop, nat_lt, nat_le}
 use Rattle.std.proofs.lemmas.Bool.Decides.{nat_tests}
 use Rattle.links.specs.Links.{LinkState, first_of, has_room, has_some, wish_at}
-use Rattle.links.specs.declared.stages.LinkStage.{LinkStage}
-use Rattle.links.specs.declared.stages.LinkStage.TheVariants.{Closed, Paused, Opening, Open}
-use Rattle.links.specs.declared.stages.LinkAction.TheVariants as wish
+use Rattle.links.specs.declared.stages.LinkStage.{LinkStage, TheVariants.Open}
 use Rattle.desk_laws.specs.FullLinks.{WorksFullLinks}
+use Rattle.links.specs.declared.stages.LinkAction.TheVariants as wish
 
 nothing : (begun : ℕ) → drop begun (first_of []) ≡ []
 nothing zero = refl
@@ -28,11 +27,9 @@ open_writes frames quiet begun now (f ∷ fs) true is some =
 
 writes_at : (stage : LinkStage) (begun now : ℕ) (waiting : List (List ℕ))
     → to_send stage begun waiting ≢ [] → wish_at stage (has_some waiting) now ≡ wish.Write
-writes_at Closed begun now waiting some = absurd (some refl)
-writes_at (Paused since millis) begun now waiting some = absurd (some refl)
-writes_at (Opening since) begun now waiting some = absurd (some refl)
 writes_at (Open frames quiet) begun now waiting some =
     open_writes frames quiet begun now waiting (nat_lt frames 63) refl some
+writes_at _ begun now waiting some = absurd (some refl)
 
 pub works : WorksFullLinks
 works = record {

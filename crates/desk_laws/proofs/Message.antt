@@ -2,73 +2,47 @@
 use Rattle.std.proofs.Common.{◌≡◌, ◌≢◌, inl, inr, refl, sym, ap, subst, ◌∙◌, ℕ, true, false, Bool}
 use Rattle.std.proofs.Common.{if◌then◌else◌, eqb, List, [], ◌∷◌, ◌++◌, length, take, drop, None}
 use Rattle.std.proofs.Common.{Some, Ok, arith}
-use Rattle.std.proofs.Math.Seq.{drop-length}
-use Rattle.std.proofs.lemmas.Bool.{ne_eqb}
-use Rattle.std.proofs.lemmas.List.{append-nil}
-use Rattle.acceptor.specs.declared.message.Message.{Message}
+use Rattle.std.proofs.{Math.Seq.drop-length, lemmas.Bool.ne_eqb, lemmas.List.append-nil}
 use Rattle.answers.specs.Seen.{Seen}
-use Rattle.connections.specs.Connections.{Connections, FollowEach, Goes}
-use Rattle.guarded.specs.LockedLaw.{IsGuardedStream}
+use Rattle.connections.specs.Connections.{Connections, FollowEach}
+use Rattle.guarded.specs.{LockedLaw.IsGuardedStream, LockedConnections.fresh_locked_connection}
 use Rattle.guarded.specs.LockedTurns.{Follow, Place}
 use Rattle.guarded.specs.LockedConnections.{LockedConnectionOf, LetsIn, after_sent}
-use Rattle.guarded.specs.LockedConnections.{fresh_locked_connection}
-use Rattle.learner.specs.Desks.{first_desk}
-use Rattle.learner.specs.declared.event.DeskEvent.TheVariants.{Deliver}
+use Rattle.learner.specs.{Desks.first_desk, declared.event.DeskEvent.TheVariants.Deliver}
 use Rattle.links.specs.Histories.{Began, History, Opened, Push, Sent, Start, Then}
 use Rattle.links.specs.Links.{LinkState, new_link, with_waiting, after_began, after_opened}
 use Rattle.links.specs.Links.{after_sent as link_sent}
 use Rattle.links.specs.declared.stages.PushOutcome.TheVariants.{Waits}
-use Rattle.multiplex.specs.EachClient.{IsServedBehind}
+use Rattle.multiplex.specs.{EachClient.IsServedBehind, Silence.ready_after}
 use Rattle.multiplex.specs.Noting.{Ears, ears, fresh_notes, hear_all}
-use Rattle.multiplex.specs.Passing.{IsServedEach, Lobby, Pass, Room, Visits, empty_lobby, guest}
-use Rattle.multiplex.specs.Passing.{lobby}
-use Rattle.multiplex.specs.Silence.{ready_after}
-use Rattle.multiplex.specs.declared.ends.ServingEnd.{ServingEnd}
-use Rattle.multiplex.specs.declared.ends.ServingEnd.TheVariants.{All as NoMore}
-use Rattle.multiplex.specs.declared.notes.Notes.{Notes}
-use Rattle.multiplex.specs.declared.own_ticks.OwnTicks.{OwnTicks}
-use Rattle.multiplex.specs.declared.table.Guest.{Guest}
-use Rattle.guarded.specs.LockedConnections as LockedConnectionOf
-use Rattle.replica.specs.Handles.{Handles}
-use Rattle.replica.specs.Settles.{Settles}
-use Rattle.replica.specs.Stores.{HoldsDesk}
+use Rattle.multiplex.specs.Passing.{IsServedEach, Lobby, Pass, Room, empty_lobby, guest, lobby}
+use Rattle.multiplex.specs.declared.{ends.ServingEnd.TheVariants.All as NoMore, notes.Notes.Notes}
+use Rattle.multiplex.specs.declared.{own_ticks.OwnTicks.OwnTicks, table.Guest.Guest}
+use Rattle.replica.specs.{Handles.Handles, Settles.Settles, Stores.HoldsDesk}
 use Rattle.seal.specs.Records.{IsBody, preface_of, records}
-use Rattle.seal.specs.declared.channel.Channel.{Channel}
-use Rattle.seal.proofs.Reading.{reads_none}
+use Rattle.seal.{specs.declared.channel.Channel.Channel, proofs.Reading.reads_none}
 use Rattle.seal_laws.specs.Keys.{AreRandom}
 use Rattle.sealed.specs.Admitting.{comes_under, goes_under}
 use Rattle.sealed.specs.ServerSeals.{ServerSealOf, IsOfLocks, Receives, Stands, fresh_server_seal}
-use Rattle.sealed.specs.Sent.{KeepsSent}
-use Rattle.sealed.specs.ClientSeals.{ClientSealOf}
+use Rattle.sealed.specs.{Sent.KeepsSent, ClientSeals.ClientSealOf, Tunnels.TunnelOf}
 use Rattle.sealed.specs.Trials.{ReadsAll, TrialOf, entry_of, fresh_trial}
-use Rattle.sealed.specs.Tunnels.{TunnelOf}
-use Rattle.sealed.specs.declared.callers.Caller.TheVariants as caller
-use Rattle.sealed.specs.declared.callers.Access.TheVariants.{Locked}
-use Rattle.sealed.specs.declared.callers.Holder.TheVariants.{Hall}
-use Rattle.sealed.specs.declared.callers.DeskKeys.{DeskKeys}
-use Rattle.sealed.specs.ends.ClientStreams.{ClientStreamOf}
-use Rattle.sealed.specs.ends.Laws.{IsCall}
-use Rattle.sealed.proofs.Fresh.{fresh_of_locks}
-use Rattle.serving.specs.Connection.{serve_frame}
-use Rattle.serving.specs.Making.{Outside, outside_of, speaking}
+use Rattle.sealed.specs.declared.callers.{Access.TheVariants.Locked, Holder.TheVariants.Hall}
+use Rattle.sealed.{specs.declared.callers.DeskKeys.DeskKeys, proofs.Fresh.fresh_of_locks}
+use Rattle.sealed.specs.ends.{ClientStreams.ClientStreamOf, Laws.IsCall}
+use Rattle.serving.specs.{Connection.serve_frame, Turns.Talk, Turns.new_talk}
+use Rattle.serving.specs.{Making.outside_of, Making.speaking, Telling.entries_told, Telling.run_of}
 use Rattle.serving.specs.Serving.{answer_out, call, push_all, start_if_grown, tell}
-use Rattle.serving.specs.Telling.{entries_told, run_of}
-use Rattle.serving.specs.TurnLaw.{Came}
-use Rattle.serving.specs.Turns.{Talk, new_talk}
-use Rattle.serving.specs.Turns as Turns
-use Rattle.store.specs.declared.home.Home.{Home}
-use Rattle.store.specs.declared.keeper.Keeper.{Ghosts}
-use Rattle.wire.specs.Spelling.{spelling}
-use Rattle.wire.specs.Stream.{front}
-use Rattle.wire.specs.declared.values.Version.TheVariants.{Two}
+use Rattle.store.specs.declared.{home.Home.Home, keeper.Keeper.Ghosts}
+use Rattle.wire.specs.{Spelling.spelling, Stream.front, declared.values.Version.TheVariants.Two}
 use Rattle.hall_laws.specs.HallExample.{said_frame, says, third_home}
 use Rattle.hall_laws.specs.HallRuns.{seen_of}
 use Rattle.hall_laws.proofs.HallExample.{answer_to, first_node, hears, said_is_frame, still}
-use Rattle.hall_laws.proofs.HallExample.{talk_of}
-use Rattle.hall_laws.proofs.HallFrames.{came_whole}
-use Rattle.desk_laws.specs.Example.{ServingWorks, WorksServing, gives, one, plain_turns, result}
-use Rattle.desk_laws.specs.Example.{served, steps, terms, turns}
-use Rattle.desk_laws.specs.Ways.{IsWay}
+use Rattle.hall_laws.proofs.{HallExample.talk_of, HallFrames.came_whole}
+use Rattle.desk_laws.specs.Example.{ServingWorks, gives, one, plain_turns, result, served, steps}
+use Rattle.desk_laws.specs.{Example.terms, Example.turns, Ways.IsWay}
+use Rattle.guarded.specs.LockedConnections as LockedConnectionOf
+use Rattle.sealed.specs.declared.callers.Caller.TheVariants as caller
+use Rattle.serving.specs.Turns as Turns
 
 -- ---- the sealed stream, of one record
 
@@ -170,8 +144,7 @@ receives locks client server random came handed st =
     subst (λ (c : List ℕ). Stands (called locks client server) (c ++ gives locks client server)
     (handed ++ spelling said_frame)) st.3
     (subst (λ (h : List ℕ). Stands (called locks client server) (gives locks client server)
-    (h ++ spelling said_frame)) (sym st.4)
-    (record {
+    (h ++ spelling said_frame)) (sym st.4) (record {
       locks = locks;
       client = client;
       stream =
@@ -192,8 +165,7 @@ receives locks client server random came handed st =
       );
     }))
   where
-    fresh : IsOfLocks locks client server
-        (fresh_trial locks client server)
+    fresh : IsOfLocks locks client server (fresh_trial locks client server)
     fresh = fresh_of_locks locks client server
 
 keeps_sent : (locks : DeskKeys) (client server : List ℕ)
@@ -325,11 +297,9 @@ guest_before locks server =
 
 abbrev guest_after : {K : Type 0} → K → DeskKeys → List ℕ → List ℕ → Guest
 guest_after keeper locks client server =
-    guest 0 (done locks client server)
-    (record { until = None; known = (ears_after keeper).known })
+    guest 0 (done locks client server) (record { until = None; known = (ears_after keeper).known })
     (ready_after 0 (LockedConnectionOf.begun (fresh_locked_connection (Locked locks) server home
-    Two))
-    (LockedConnectionOf.begun (done locks client server)) 0)
+    Two)) (LockedConnectionOf.begun (done locks client server)) 0)
 
 abbrev room : {K : Type 0} → (k : Ghosts K) → K → Lobby
     → Room (speaking (Handles k) (Settles k) Two)
@@ -642,8 +612,7 @@ plain k keeper talk = record {
 all_new : (j : ℕ) → (if eqb j 0 then new_talk home Two else new_talk home Two) ≡ new_talk home Two
 all_new j = go (eqb j 0)
   where
-    go : (b : Bool)
-        → (let t : Talk = if b then new_talk home Two else new_talk home Two in t)
+    go : (b : Bool) → (let t : Talk = if b then new_talk home Two else new_talk home Two in t)
         ≡ new_talk home Two
     go true = refl
     go false = refl
@@ -665,8 +634,7 @@ plain_follows k keeper is holds = (
     turn =
         came_whole (speaking (Handles k) (Settles k) Two) (seen keeper)
         (outside_of (speaking (Handles k) (Settles k) Two) (first_node keeper) None) home Two
-        said_frame
-        said_is_frame;
+        said_frame said_is_frame;
     others = λ j ne. others j waits (new_talk home Two) ne;
   },
   (

@@ -1,42 +1,30 @@
 -- What a desk does while it serves clients by the loop.
 use Rattle.std.proofs.Common.{◌≡◌, refl, sym, ap, subst, ◌∙◌, ℕ, ◌==◌, ◌&&◌, if◌then◌else◌, Bool}
 use Rattle.std.proofs.Common.{true, false, List, [], ◌∷◌, ◌++◌, Option, None, Some, arith}
-use Rattle.std.proofs.lemmas.Bool.Decides.{nat_tests}
-use Rattle.std.proofs.lemmas.List.{append-nil}
+use Rattle.std.proofs.lemmas.{Bool.Decides.nat_tests, List.append-nil}
 use Rattle.answers.specs.declared.desk.Desk.{Ghosts as DeskOf}
 use Rattle.connections.specs.Connections.{Point}
-use Rattle.multiplex.specs.EachClient.{AreDoneInTurn, Deed, Frame, OwnTick, point_in, sides_at}
-use Rattle.multiplex.specs.EachClient.{Settling}
-use Rattle.multiplex.specs.Passing.{TicksBy}
-use Rattle.multiplex.proofs.Following.{each_client}
-use Rattle.replica.specs.Handles.{Handles}
-use Rattle.replica.specs.Settles.{Settles}
-use Rattle.replica.specs.Nodes.{NodeValue}
-use Rattle.serving.specs.Asking.{strange}
-use Rattle.serving.specs.Connection.{Begun, Sides, serve_frame}
+use Rattle.multiplex.specs.EachClient.{AreDoneInTurn, Deed, Frame, OwnTick, sides_at, Settling}
+use Rattle.multiplex.{specs.Passing.TicksBy, specs.Passing.point_in, proofs.Following.each_client}
+use Rattle.replica.specs.{Handles.Handles, Settles.Settles, Nodes.NodeValue}
+use Rattle.serving.specs.{Asking.strange, Connection.Begun, Nodes.Fate, Serving.Act, Turns.LeavesAt}
+use Rattle.serving.specs.{Connection.Sides, declared.ends.ConnectionEnd.ConnectionEnd}
+use Rattle.serving.specs.{Connection.serve_frame, OwnTicks.tick_begun, OwnTicks.tick_frame}
 use Rattle.serving.specs.Making.{Lead, Way, calls_of, speaking}
-use Rattle.serving.specs.Nodes.{Fate}
-use Rattle.serving.specs.OwnTicks.{tick_begun, tick_frame}
-use Rattle.serving.specs.Serving.{Act}
-use Rattle.serving.specs.Turns.{LeavesAt}
-use Rattle.serving.specs.declared.ends.ConnectionEnd.{ConnectionEnd}
-use Rattle.serving.specs.declared.ends.ConnectionEnd.TheVariants as end
-use Rattle.serving.specs.declared.request.Request.{Request}
-use Rattle.serving.specs.declared.request.Request.TheVariants.{Ticked}
-use Rattle.store.specs.declared.home.Home.{Home}
-use Rattle.store.specs.declared.keeper.Keeper.{Ghosts}
+use Rattle.serving.specs.declared.request.Request.{Request, TheVariants.Ticked}
+use Rattle.store.specs.declared.{home.Home.Home, keeper.Keeper.Ghosts}
 use Rattle.wire.specs.declared.values.Version.{Version}
 use Rattle.hall_laws.specs.HallRuns.{IsTick}
-use Rattle.desk_laws.specs.LoopRuns.{AreDone, AreFor, Doing, IsDone, ServingsAreDoings}
-use Rattle.desk_laws.specs.LoopRuns.{Did, Done, Settled}
+use Rattle.desk_laws.specs.LoopRuns.{AreDone, AreFor, Doing, IsDone, ServingsAreDoings, Did, Done}
+use Rattle.desk_laws.specs.LoopRuns.{Settled}
+use Rattle.serving.specs.declared.ends.ConnectionEnd.TheVariants as end
 
 -- ---- a frame
 
 -- what is done for a frame, and what would be done after it
 abbrev Front : {V : Type 0} → (way : Way V) → Home → Sides way → Sides way → Begun → Type 0
 Front way home a b one =
-    (acts : List Act) × (rest : List Act)
-    × ((serve_frame home a.seen one).acts ≡ acts ++ rest)
+    (acts : List Act) × (rest : List Act) × ((serve_frame home a.seen one).acts ≡ acts ++ rest)
     × Lead way.handles a.outside.node (calls_of acts) b.outside.node
 
 whole_front : {V : Type 0} (way : Way V) (home : Home) (a b : Sides way) (one : Begun)
@@ -60,8 +48,7 @@ front_of way (Some end.Write) home a b one count l = absurd l
 
 -- ---- a Tick
 
-both_true : (a b : Bool) (x y : Request) → a ≡ true → b ≡ true
-    → (if a && b then x else y) ≡ x
+both_true : (a b : Bool) (x y : Request) → a ≡ true → b ≡ true → (if a && b then x else y) ≡ x
 both_true a b x y p q = ap (λ t. if t && b then x else y) p ∙ ap (λ t. if t then x else y) q
 
 asks_tick : (version : Version) (home : Home) (fates : List Fate)
@@ -73,8 +60,7 @@ asks_tick version home fates =
     (strange (tick_frame version home).what) hall desk
 
 tick_front : {V : Type 0} (way : Way V) (starved : Bool) (home : Home) (a b : Sides way)
-    → TicksBy starved home a b
-    → (one : Begun) × IsTick home one × Front way home a b one
+    → TicksBy starved home a b → (one : Begun) × IsTick home one × Front way home a b one
 tick_front way false home a b t = (
   tick_begun way.wire home t.0,
   asks_tick way.wire home t.0,
@@ -94,7 +80,7 @@ doings_of : {K : Type 0} (k : Ghosts K) (home : Home) (wire : Version) (deeds : 
     × AreDone k home p.outside.node doings q.outside.node
 doings_of {K} k home wire [] p q h =
     ([], tt, ap (λ (z : Point (speaking (Handles k) (Settles k) wire)). z.outside.node) h)
-doings_of {K} k home wire (Frame f ∷ deeds) p q h =
+doings_of {K} k home wire (Frame own f ∷ deeds) p q h =
     let m = h.0 in
     let at = h.1.0 in
     let front =
@@ -110,8 +96,7 @@ doings_of {K} k home wire (Frame f ∷ deeds) p q h =
       rest = front.1;
       parts = front.2;
       calls =
-          subst
-          (λ (z : Point (speaking (Handles k) (Settles k) wire)).
+          subst (λ (z : Point (speaking (Handles k) (Settles k) wire)).
           Lead (Handles k) p.outside.node (calls_of front.0) z.outside.node) h.1.2 front.3;
     } in
     (Done doing ∷ later.0, (refl, later.1), (m.outside.node, done, later.2))

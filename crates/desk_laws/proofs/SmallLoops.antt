@@ -1,32 +1,22 @@
 -- A small run of desks that serve by the loop.
-use Rattle.std.proofs.Common.{◌≡◌, refl, sym, ap, subst, ◌∙◌, ℕ, zero, suc, List, [], ◌∷◌, ◌++◌}
-use Rattle.std.proofs.Common.{Some, Ok, arith}
-use Rattle.std.proofs.lemmas.List.{append-nil}
-use Rattle.learner.specs.Desks.{first_desk}
+use Rattle.std.proofs.Common.{◌≡◌, refl, sym, ap, subst, ◌∙◌, ℕ, zero, suc, [], ◌∷◌, ◌++◌, Ok}
+use Rattle.std.proofs.{Common.arith, lemmas.List.append-nil}
 use Rattle.learner.specs.Ranges.{AreInRange}
-use Rattle.learner.specs.Steps.{IsDesk}
 use Rattle.learner.specs.declared.event.DeskEvent.TheVariants.{Tick, Deliver}
-use Rattle.replica.specs.Handles.{FitInFrames, Handles}
-use Rattle.replica.specs.Nodes.{NodeValue}
-use Rattle.replica.specs.Stores.{HoldsDesk}
-use Rattle.serving.specs.Connection.{serve_frame}
-use Rattle.serving.specs.Making.{Lead, calls_of}
-use Rattle.store.specs.declared.home.Home.{Home}
-use Rattle.store.specs.declared.keeper.Keeper.{Ghosts}
+use Rattle.replica.specs.{Handles.FitInFrames, Handles.Handles, Nodes.NodeValue}
+use Rattle.serving.specs.{Connection.serve_frame, Making.Lead, Making.calls_of}
+use Rattle.store.specs.declared.{home.Home.Home, keeper.Keeper.Ghosts}
 use Rattle.hall_laws.specs.HallExample.{says, third_home}
 use Rattle.hall_laws.specs.HallRuns.{FrameWasSent, seen_of}
-use Rattle.hall_laws.specs.OwnMessages.{sent_after}
+use Rattle.hall_laws.{specs.OwnMessages.sent_after, proofs.HallExample.two_of_three}
 use Rattle.hall_laws.proofs.HallExample.{first_node, hears_so, one_of_three, still, ticks_so}
-use Rattle.hall_laws.proofs.HallExample.{two_of_three}
 use Rattle.desk_laws.specs.Example.{LoopsWork, first_loops, hears, ticks}
-use Rattle.desk_laws.specs.LoopRuns.{Does, DoesAt, Doing, IsDone, LoopStep, Loops}
+use Rattle.desk_laws.specs.LoopRuns.{Does, DoesAt, Doing, IsDone, Loops}
 
 -- a desk whose node stays does this, where that is all
 done_so : {K : Type 0} (k : Ghosts K) (x : NodeValue K) (home : Home) (doing : Doing)
-    → k.home_of x.keeper ≡ home
-    → doing.acts ≡ (serve_frame home (seen_of x) doing.one).acts
-    → Lead (Handles k) x (calls_of doing.acts) x
-    → IsDone k (k.home_of x.keeper) doing x x
+    → k.home_of x.keeper ≡ home → doing.acts ≡ (serve_frame home (seen_of x) doing.one).acts
+    → Lead (Handles k) x (calls_of doing.acts) x → IsDone k (k.home_of x.keeper) doing x x
 done_so k x home doing is all lead = record {
   seen = seen_of x;
   rest = [];
@@ -82,8 +72,7 @@ loops_work {K} k keeper own = (
         still k (keeper 1) 1 Tick (says 2 ∷ says 3 ∷ []) (own 1 one_of_three).0
         (own 1 one_of_three).1 refl refl named fits
 
-    handles_2 : Handles k (first_node (keeper 2)) (Deliver (says 2)) (Ok [])
-        (first_node (keeper 2))
+    handles_2 : Handles k (first_node (keeper 2)) (Deliver (says 2)) (Ok []) (first_node (keeper 2))
     handles_2 =
         still k (keeper 2) 2 (Deliver (says 2)) [] (own 2 two_of_three).0
         (own 2 two_of_three).1 refl refl tt (λ j m less. absurd (omega arith))

@@ -1,76 +1,36 @@
 -- What needs a key came under one.
-use Rattle.std.proofs.Common.{◌≡◌, refl, sym, ap, subst, ◌∙◌, ℕ, List, [], ◌∷◌, ◌++◌, Option, None}
-use Rattle.std.proofs.Common.{Some, append_assoc, length, ◌⊎◌, inl, inr, Bool, true, false}
-use Rattle.std.proofs.Common.{if◌then◌else◌}
-use Rattle.std.specs.Prelude.{IsTrue, option_map}
-use Rattle.std.specs.List.{flat_map}
-use Rattle.connections.specs.Connections.{begun_of}
-use Rattle.connections.proofs.Interleaving.{begun_both}
+use Rattle.std.proofs.Common.{◌≡◌, sym, ap, ◌∙◌, ℕ, [], ◌∷◌, ◌++◌, None, Some, inl, inr, Bool, true}
+use Rattle.std.proofs.Common.{refl, subst, List, Option, append_assoc, length, false, if◌then◌else◌}
+use Rattle.std.specs.{Prelude.IsTrue, Prelude.option_map, List.flat_map}
+use Rattle.connections.{specs.Connections.begun_of, proofs.Interleaving.begun_both}
 use Rattle.guarded.specs.LockedLaw.{AreAllowed, IsAllowed, IsHallKey}
-use Rattle.guarded.specs.Permitting.{permission_of}
-use Rattle.guarded.proofs.Holding.{BeginsAt}
+use Rattle.guarded.{specs.Permitting.permission_of, proofs.Holding.BeginsAt}
 use Rattle.multiplex.proofs.Placed.{all_back}
-use Rattle.seal.specs.Records.{preface_of, records}
-use Rattle.seal.specs.declared.channel.Channel.{Channel}
+use Rattle.seal.specs.{Records.preface_of, Records.records, declared.channel.Channel.Channel}
 use Rattle.sealed.specs.Admitting.{Admits, IsSealed, comes_under}
-use Rattle.sealed.specs.Sent.{key_for}
-use Rattle.sealed.specs.Trials.{Hands}
-use Rattle.sealed.specs.declared.callers.Caller.{Caller}
-use Rattle.sealed.specs.declared.callers.Caller.TheVariants.{Anyone, Visitor}
-use Rattle.sealed.specs.declared.callers.Caller.TheVariants as caller
+use Rattle.sealed.specs.{Sent.key_for, Trials.Hands, declared.callers.DeskKeys.DeskKeys}
+use Rattle.sealed.specs.declared.callers.Caller.{Caller, TheVariants.Anyone, TheVariants.Visitor}
 use Rattle.sealed.specs.declared.callers.Access.TheVariants.{Open, Locked}
-use Rattle.sealed.specs.declared.callers.Holder.{Holder}
-use Rattle.sealed.specs.declared.callers.Holder.TheVariants.{Hall, Entry}
-use Rattle.sealed.specs.declared.callers.DeskKeys.{DeskKeys}
-use Rattle.serving.specs.Asking.{request}
+use Rattle.sealed.specs.declared.callers.Holder.{Holder, TheVariants.Hall, TheVariants.Entry}
+use Rattle.serving.specs.{Asking.request, Differing.withheld, Permissions.permitted}
 use Rattle.serving.specs.Connection.{Begun, asked, frames_of}
-use Rattle.serving.specs.Differing.{withheld}
-use Rattle.serving.specs.Permissions.{permitted}
-use Rattle.serving.specs.declared.permission.Permission.{Permission}
-use Rattle.serving.specs.declared.permission.Permission.TheVariants as permission
-use Rattle.serving.specs.declared.request.Request.{Request}
-use Rattle.serving.specs.declared.request.Request.TheVariants.{Heard, Lagging, Learned, Entered}
-use Rattle.serving.specs.declared.request.Request.TheVariants.{Asked, Printed, Ticked, Stopped}
-use Rattle.serving.specs.declared.request.Request.TheVariants.{Inspected, Copied, Strange, Ignored}
-use Rattle.serving.specs.declared.request.Request.TheVariants.{Denied, Withheld}
-use Rattle.wire.specs.Spelling.{spelling}
-use Rattle.wire.specs.declared.standing.Difference.{Difference}
+use Rattle.serving.specs.declared.{permission.Permission.Permission, request.Request.Request}
+use Rattle.serving.specs.declared.request.Request.TheVariants.{Heard, Entered, Inspected}
+use Rattle.wire.specs.{Spelling.spelling, declared.standing.Difference.Difference}
 use Rattle.desk_laws.specs.UnderKeys.{CameUnderKey, EachAsksUnderAKey, IsUnderKey, needs_halls}
 use Rattle.desk_laws.specs.UnderKeys.{needs_key}
+use Rattle.sealed.specs.declared.callers.Caller.TheVariants as caller
+use Rattle.serving.specs.declared.permission.Permission.TheVariants as permission
 
 -- ---- what may be asked without a key, or under the entry key
 
 without_key : (r : Request) → IsTrue (needs_key (permitted permission.Sheets r)) → ⊥
 without_key (Heard m) h = absurd cc
-without_key (Lagging m) h = absurd cc
-without_key (Learned run) h = absurd cc
-without_key (Entered e) h = absurd cc
-without_key (Asked id) h = absurd cc
-without_key (Printed event round position style) h = absurd cc
-without_key (Inspected differs) h = absurd cc
-without_key (Copied position) h = absurd cc
-without_key Ticked h = absurd cc
-without_key Stopped h = absurd cc
-without_key Strange h = absurd cc
-without_key Ignored h = absurd cc
-without_key Denied h = absurd cc
-without_key Withheld h = absurd cc
+without_key _ h = absurd cc
 
 under_entry : (r : Request) → IsTrue (needs_halls (permitted permission.Entries r)) → ⊥
 under_entry (Heard m) h = absurd cc
-under_entry (Lagging m) h = absurd cc
-under_entry (Learned run) h = absurd cc
-under_entry (Entered e) h = absurd cc
-under_entry (Asked id) h = absurd cc
-under_entry (Printed event round position style) h = absurd cc
-under_entry (Inspected differs) h = absurd cc
-under_entry (Copied position) h = absurd cc
-under_entry Ticked h = absurd cc
-under_entry Stopped h = absurd cc
-under_entry Strange h = absurd cc
-under_entry Ignored h = absurd cc
-under_entry Denied h = absurd cc
-under_entry Withheld h = absurd cc
+under_entry _ h = absurd cc
 
 -- what is done although another desk differs needs what it needs
 abbrev Needs : Request → Request → Type 0
@@ -81,19 +41,8 @@ Needs s r =
 needs_still : (differs : Option Difference) (r : Request) → Needs (withheld differs r) r
 needs_still None r = (λ h. h, λ h. h)
 needs_still (Some d) (Entered e) = (λ h. absurd cc, λ h. absurd cc)
-needs_still (Some d) (Heard m) = (λ h. h, λ h. h)
-needs_still (Some d) (Lagging m) = (λ h. h, λ h. h)
-needs_still (Some d) (Learned run) = (λ h. h, λ h. h)
-needs_still (Some d) (Asked id) = (λ h. h, λ h. h)
-needs_still (Some d) (Printed event round position style) = (λ h. h, λ h. h)
 needs_still (Some d) (Inspected other) = (λ h. absurd cc, λ h. absurd cc)
-needs_still (Some d) (Copied position) = (λ h. h, λ h. h)
-needs_still (Some d) Ticked = (λ h. h, λ h. h)
-needs_still (Some d) Stopped = (λ h. h, λ h. h)
-needs_still (Some d) Strange = (λ h. h, λ h. h)
-needs_still (Some d) Ignored = (λ h. h, λ h. h)
-needs_still (Some d) Denied = (λ h. h, λ h. h)
-needs_still (Some d) Withheld = (λ h. h, λ h. h)
+needs_still (Some d) _ = (λ h. h, λ h. h)
 
 -- ---- what is let in under a key
 

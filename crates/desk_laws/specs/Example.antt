@@ -2,40 +2,28 @@
 -- three reports to desk 2 how long its log is, over a connection under the hall's key.
 use Rattle.std.specs.Prelude.{◌≡◌, ℕ, false, List, [], ◌∷◌, ◌++◌, None, Some, Ok, IsTrue, map}
 use Rattle.connections.specs.Connections.{Connections, FollowEach, Served, TurnOf}
-use Rattle.guarded.specs.LockedLaw.{delivers}
+use Rattle.guarded.specs.{LockedLaw.delivers, LockedConnections.fresh_locked_connection}
 use Rattle.guarded.specs.LockedTurns.{Follow, Place}
-use Rattle.guarded.specs.LockedConnections.{fresh_locked_connection}
-use Rattle.learner.specs.Desks.{first_desk}
-use Rattle.learner.specs.Steps.{IsDesk}
+use Rattle.learner.specs.{Desks.first_desk, Steps.IsDesk}
 use Rattle.learner.specs.declared.event.DeskEvent.TheVariants.{Deliver}
-use Rattle.multiplex.specs.EachClient.{IsServedBehind}
+use Rattle.multiplex.specs.{EachClient.IsServedBehind, declared.ends.EndReason.TheVariants.Ended}
 use Rattle.multiplex.specs.Passing.{Changed, Comes, IsServedEach, Room, Step, Stops, Visit}
 use Rattle.multiplex.specs.declared.ends.ServingEnd.TheVariants.{All as NoMore}
 use Rattle.multiplex.specs.declared.ends.ServingsOutcome.{ServingsOutcome}
-use Rattle.multiplex.specs.declared.ends.EndReason.TheVariants.{Ended}
 use Rattle.multiplex.specs.declared.table.ServingOptions.{ServingOptions}
-use Rattle.replica.specs.Handles.{Handles}
-use Rattle.replica.specs.Settles.{Settles}
-use Rattle.replica.specs.Lengths.{nothing_told}
-use Rattle.replica.specs.Stores.{HoldsDesk}
+use Rattle.replica.specs.{Handles.Handles, Settles.Settles, Lengths.nothing_told, Stores.HoldsDesk}
 use Rattle.seal.specs.Records.{preface_of, records}
 use Rattle.seal_laws.specs.Keys.{AreRandom}
 use Rattle.sealed.specs.Admitting.{comes_under}
-use Rattle.sealed.specs.declared.callers.Access.TheVariants.{Locked}
-use Rattle.sealed.specs.declared.callers.DeskKeys.{DeskKeys}
-use Rattle.serving.specs.Connection.{Begun, asked}
-use Rattle.serving.specs.Making.{speaking}
-use Rattle.serving.specs.Serving.{Called}
+use Rattle.sealed.specs.declared.callers.{Access.TheVariants.Locked, DeskKeys.DeskKeys}
+use Rattle.serving.specs.{Connection.Begun, Making.speaking, Serving.Called, Turns.new_talk}
+use Rattle.serving.specs.{Connection.asked, declared.permission.Permission.TheVariants.All}
 use Rattle.serving.specs.TurnLaw.{Began, Came, Took, Turn}
-use Rattle.serving.specs.Turns.{new_talk}
-use Rattle.serving.specs.declared.permission.Permission.TheVariants.{All}
 use Rattle.store.specs.declared.keeper.Keeper.{Ghosts}
-use Rattle.wire.specs.Spelling.{spelling}
-use Rattle.wire.specs.declared.values.Version.TheVariants.{Two}
+use Rattle.wire.specs.{Spelling.spelling, declared.values.Version.TheVariants.Two}
 use Rattle.hall_laws.specs.HallExample.{said_frame, says, third_home, tick_acts, tick_frame}
 use Rattle.desk_laws.specs.LoopRuns.{DoesAt, Doing, IsLoopRun, LoopStep, Loops}
-use Rattle.desk_laws.specs.UnderKeys.{needs_key}
-use Rattle.desk_laws.specs.Ways.{IsWay}
+use Rattle.desk_laws.specs.{UnderKeys.needs_key, Ways.IsWay}
 
 -- one client is accepted
 abbrev pub terms : DeskKeys → ServingOptions
@@ -125,8 +113,7 @@ hears = record { one = one; acts = Called (Deliver (says 2)) (Ok []) ∷ [] }
 -- this is a run of three desks, whatever keeps their state
 abbrev pub LoopsWork : {K : Type 0} → Ghosts K → Type 0
 LoopsWork {K} k =
-    (keeper : ℕ → K)
-    → ((d : ℕ) → IsDesk 3 d
+    (keeper : ℕ → K) → ((d : ℕ) → IsDesk 3 d
     → (k.home_of (keeper d) ≡ third_home d) × HoldsDesk k (keeper d) first_desk)
     → (steps : List (LoopStep K))
     × (map (λ (s : LoopStep K). s.event) steps ≡ DoesAt 1 ticks ∷ DoesAt 2 hears ∷ [])

@@ -2,37 +2,29 @@
 -- own: what may happen to them, one event after the other, in any order, and what becomes of it.
 use Rattle.std.specs.Prelude.{ℕ, ◌≡◌, ◌≢◌, ◌⊎◌, Bool, true, List, [], ◌∷◌, ◌++◌, Option, Some}
 use Rattle.std.specs.Prelude.{slice_get, take}
-use Rattle.acceptor.specs.declared.entry.Entry.{Entry}
-use Rattle.acceptor.specs.declared.message.Message.{Message}
+use Rattle.acceptor.specs.declared.{entry.Entry.Entry, message.Message.Message}
 use Rattle.answers.specs.Seen.{Seen}
-use Rattle.learner.specs.Desks.{first_desk}
-use Rattle.learner.specs.Laws.{IsPrefix}
-use Rattle.learner.specs.Steps.{IsDesk}
+use Rattle.learner.specs.{Desks.first_desk, Laws.IsPrefix, Steps.IsDesk}
 use Rattle.learner.specs.Worlds.{World, new_world}
-use Rattle.multiplex.specs.EachClient.{AreDoneInTurn, Deed, Frame, OwnTick, Settling, point_in}
+use Rattle.multiplex.specs.EachClient.{AreDoneInTurn, Deed, Frame, OwnTick, Settling}
 use Rattle.polled.specs.Happenings.{Happened}
-use Rattle.multiplex.specs.Passing.{IsServedEach, Room, Step}
+use Rattle.multiplex.specs.Passing.{IsServedEach, Room, Step, point_in}
 use Rattle.multiplex.specs.declared.ends.ServingsOutcome.{ServingsOutcome}
 use Rattle.multiplex.specs.declared.table.ServingOptions.{ServingOptions}
-use Rattle.replica.specs.Handles.{Handles}
-use Rattle.replica.specs.Settles.{Settles}
-use Rattle.replica.specs.Nodes.{NodeValue}
-use Rattle.replica.specs.Opens.{Opens}
+use Rattle.replica.specs.{Handles.Handles, Settles.Settles, Nodes.NodeValue, Opens.Opens}
 use Rattle.replica.specs.Stores.{HoldsDesk}
-use Rattle.serving.specs.Connection.{Begun, serve_frame}
+use Rattle.serving.specs.{Connection.Begun, Connection.serve_frame, Serving.Act}
 use Rattle.serving.specs.Making.{Lead, calls_of, speaking}
-use Rattle.serving.specs.Serving.{Act}
-use Rattle.store.specs.declared.home.Home.{Home}
-use Rattle.store.specs.declared.keeper.Keeper.{Ghosts}
+use Rattle.store.specs.declared.{home.Home.Home, keeper.Keeper.Ghosts}
 use Rattle.hall_laws.specs.HallRuns.{FrameWasSent, IsSameStore, IsTakenIn, IsTick, StopsInSave}
 use Rattle.hall_laws.specs.OwnMessages.{sent_after}
-use Rattle.hall_laws.specs.Stops.{Happening, real_run}
+use Rattle.hall_laws.specs.Stops.{AreMoments, AreTaken, Happening, state_after}
 use Rattle.wire.specs.declared.frame.FrameBody.TheVariants as what
 
 -- ---- what a desk does
 
--- what a desk does for a frame of a client, or for the one that stands for a Tick of its own: calls
--- and pushes, in order
+-- what a desk does for a frame of a client, for one by which it says something to itself, or for
+-- the one that stands for a Tick of its own: calls and pushes, in order
 pub record Doing : Type 0 where
   pub one : Begun
   pub acts : List Act
@@ -52,20 +44,19 @@ pub data Did : Type 0 where
   Settled : Bool → Did
 
 -- one after the other
-abbrev pub AreDone : {K : Type 0} → Ghosts K → Home → NodeValue K → List Did → NodeValue K
-    → Type 0
+abbrev pub AreDone : {K : Type 0} → Ghosts K → Home → NodeValue K → List Did → NodeValue K → Type 0
 AreDone k home x [] y = x ≡ y
 AreDone {K} k home x (Done doing ∷ more) y =
     (z : NodeValue K) × IsDone k home doing x z × AreDone k home z more y
 AreDone {K} k home x (Settled ok ∷ more) y =
     (z : NodeValue K) × Settles k x ok z × AreDone k home z more y
 
--- it is done for this frame of a client, or for a Tick of the desk's own, or it is that settling
+-- it is done for this frame, or for a Tick of the desk's own, or it is that settling
 abbrev pub IsFor : Home → Deed → Did → Type 0
-IsFor home (Frame f) (Done doing) = doing.one ≡ f.one
+IsFor home (Frame own f) (Done doing) = doing.one ≡ f.one
 IsFor home (OwnTick starved) (Done doing) = IsTick home doing.one
 IsFor home (Settling ok) (Settled same) = same ≡ ok
-IsFor home (Frame f) (Settled ok) = ⊥
+IsFor home (Frame own f) (Settled ok) = ⊥
 IsFor home (OwnTick starved) (Settled ok) = ⊥
 IsFor home (Settling ok) (Done doing) = ⊥
 
@@ -82,8 +73,7 @@ abbrev pub ServingsAreDoings : {K : Type 0} → Ghosts K → Type 0
 ServingsAreDoings {K} k =
     (result : ServingsOutcome) (home : Home) (t : ServingOptions) (period : Option ℕ)
     (a b : Room (speaking (Handles k) (Settles k) t.wire)) (before after : Option (List Happened))
-    (steps : List Step)
-    → IsServedEach result home t period a b before after steps
+    (steps : List Step) → IsServedEach result home t period a b before after steps
     → (deeds : List Deed) × (doings : List Did)
     × AreDoneInTurn home (point_in a) deeds (point_in b) × AreFor home deeds doings
     × AreDone k home a.outside.node doings b.outside.node
@@ -165,8 +155,8 @@ pub record LoopStep (K : Type 0) : Type 0 where
   pub after : Loops K
 
 abbrev pub AreLoopSteps : {K : Type 0} → Ghosts K → ℕ → Loops K → List (LoopStep K) → Type 0
-AreLoopSteps k n a [] = Unit {0}
-AreLoopSteps k n a (s ∷ ss) = LoopGoes k n s.event a s.after × AreLoopSteps k n s.after ss
+AreLoopSteps {K} k n a steps =
+    AreTaken (λ (s : LoopStep K). s.after) (λ b s. LoopGoes k n s.event b s.after) a steps
 
 -- desk d of n, that was opened over an empty store
 pub record IsFirst {K : Type 0} (k : Ghosts K) (n d : ℕ) (x : NodeValue K) : Type 0 where
@@ -182,8 +172,7 @@ pub record IsLoopRun {K : Type 0} (k : Ghosts K) (n : ℕ) (a : Loops K)
   pub taken : AreLoopSteps k n a steps
 
 abbrev pub loops_after : {K : Type 0} → Loops K → List (LoopStep K) → Loops K
-loops_after a [] = a
-loops_after a (s ∷ ss) = loops_after s.after ss
+loops_after {K} a steps = state_after (λ (s : LoopStep K). s.after) a steps
 
 -- the log of desk d after the first i steps
 abbrev pub loop_log : {K : Type 0} → Loops K → List (LoopStep K) → ℕ → ℕ → List Entry
@@ -199,11 +188,8 @@ pub record IsWorld {K : Type 0} (n : ℕ) (a : Loops K) (w : World) : Type 0 whe
 -- so it is at first, and after each step, where each step is these happenings
 abbrev pub AreHappenings : {K : Type 0} → ℕ → Loops K → World → List (LoopStep K)
     → List (List Happening) → Type 0
-AreHappenings n a w [] [] = IsWorld n a w
-AreHappenings n a w [] (hs ∷ rest) = ⊥
-AreHappenings n a w (s ∷ ss) [] = ⊥
-AreHappenings n a w (s ∷ ss) (hs ∷ rest) =
-    IsWorld n a w × AreHappenings n s.after (real_run n w hs) ss rest
+AreHappenings {K} n a w steps each =
+    AreMoments (λ (s : LoopStep K). s.after) (λ b v. IsWorld n b v) n a w steps each
 
 -- the calls of all desks together are a run of the world
 abbrev pub LoopsAreRuns : {K : Type 0} → Ghosts K → Type 0

@@ -3,25 +3,20 @@ use Rattle.std.specs.Prelude.{◌≡◌, ℕ, false, true, List, [], ◌∷◌, 
 use Rattle.std.specs.List.{AllByRecursion}
 use Rattle.answers.specs.Seen.{Seen}
 use Rattle.client.specs.Answers.{judged, judged_what}
-use Rattle.client.specs.Hearing.{StandsFirst}
-use Rattle.client.specs.declared.fault.ClientFault.{ClientFault}
+use Rattle.client.specs.{Hearing.StandsFirst, declared.fault.ClientFault.ClientFault}
 use Rattle.learner.specs.Desks.{first_desk}
 use Rattle.replica.specs.Lengths.{nothing_told}
 use Rattle.seal_laws.specs.BothSides.{AreConnected}
-use Rattle.sealed.specs.ServerSeals.{ServerSealOf}
-use Rattle.sealed.specs.ends.ClientStreams.{ClientStreamOf}
-use Rattle.serving.specs.Asking.{ours}
+use Rattle.sealed.specs.{ServerSeals.ServerSealOf, ends.ClientStreams.ClientStreamOf}
+use Rattle.serving.specs.{Asking.ours, Connection.serve_frame, Connection.serve_frames}
 use Rattle.serving.specs.Connection.{AreBegun, Begun, answer_bytes, answer_frame, asked}
-use Rattle.serving.specs.Connection.{serve_frame, serve_frames}
-use Rattle.serving.specs.declared.permission.Permission.TheVariants as permission
 use Rattle.store.specs.declared.home.Home.{Home}
 use Rattle.wire.specs.Ranges.{FromClient, IsFrame, way_of}
-use Rattle.wire.specs.Spelling.{spelling}
-use Rattle.wire.specs.declared.frame.Frame.{Frame}
-use Rattle.wire.specs.declared.frame.FrameBody.{FrameBody}
-use Rattle.wire.specs.declared.frame.FrameBody.TheVariants as what
-use Rattle.wire.specs.declared.values.Version.TheVariants.{Three}
+use Rattle.wire.specs.{Spelling.spelling, declared.values.Version.TheVariants.Three}
+use Rattle.wire.specs.declared.frame.{Frame.Frame, FrameBody.FrameBody}
 use Rattle.hall_laws.specs.HallExample.{third_home}
+use Rattle.serving.specs.declared.permission.Permission.TheVariants as permission
+use Rattle.wire.specs.declared.frame.FrameBody.TheVariants as what
 
 -- A frame that names this desk asks it just what it says, on a connection that may ask all, where
 -- no desk differs.
@@ -73,8 +68,7 @@ abbrev pub QuestionsAreAnswered : Type 0
 QuestionsAreAnswered =
     (home : Home) (x : Seen) (f : Frame) (came lost rest : List ℕ) (begun : List Begun)
     (heard more : List ℕ) (result : Result FrameBody ClientFault)
-    → IsExchange home x f came rest begun heard result
-    → spelling f ≡ came ++ lost
+    → IsExchange home x f came rest begun heard result → spelling f ≡ came ++ lost
     → answer_bytes (serve_frames home x begun).answers ≡ heard ++ more
     → Answers home x f begun result
 
@@ -83,11 +77,9 @@ abbrev pub QuestionsUnderAKey : Type 0
 QuestionsUnderAKey =
     (caller : ClientStreamOf) (desk : ServerSealOf) (home : Home) (x : Seen) (f : Frame)
     (came rest : List ℕ) (begun : List Begun) (heard : List ℕ)
-    (result : Result FrameBody ClientFault)
-    → IsExchange home x f came rest begun heard result
+    (result : Result FrameBody ClientFault) → IsExchange home x f came rest begun heard result
     → AreConnected caller desk (spelling f) came
-    (answer_bytes (serve_frames home x begun).answers) heard
-    → Answers home x f begun result
+    (answer_bytes (serve_frames home x begun).answers) heard → Answers home x f begun result
 
 -- ---- there are such questions
 

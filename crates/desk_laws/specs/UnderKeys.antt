@@ -4,19 +4,12 @@ use Rattle.std.specs.List.{flat_map}
 use Rattle.connections.specs.Connections.{Served, begun_of}
 use Rattle.guarded.specs.LockedLaw.{IsHallKey}
 use Rattle.multiplex.specs.EachClient.{IsServedBehind}
-use Rattle.seal.specs.Records.{AreBodies, preface_of, records}
-use Rattle.seal.specs.Streams.{joined}
-use Rattle.sealed.specs.Admitting.{comes_under}
-use Rattle.sealed.specs.Sent.{key_for}
-use Rattle.sealed.specs.declared.callers.Access.TheVariants.{Locked}
-use Rattle.sealed.specs.declared.callers.Holder.{Holder}
-use Rattle.sealed.specs.declared.callers.DeskKeys.{DeskKeys}
+use Rattle.seal.specs.{Records.AreBodies, Records.preface_of, Records.records, Streams.joined}
+use Rattle.sealed.specs.{Admitting.comes_under, Sent.key_for, declared.callers.DeskKeys.DeskKeys}
+use Rattle.sealed.specs.declared.callers.{Access.TheVariants.Locked, Holder.Holder}
 use Rattle.serving.specs.Connection.{Begun, asked, frames_of}
-use Rattle.serving.specs.declared.request.Request.{Request}
+use Rattle.serving.specs.declared.request.Request.{Request, TheVariants.Ticked, TheVariants.Stopped}
 use Rattle.serving.specs.declared.request.Request.TheVariants.{Heard, Lagging, Learned, Entered}
-use Rattle.serving.specs.declared.request.Request.TheVariants.{Asked, Printed, Ticked, Stopped}
-use Rattle.serving.specs.declared.request.Request.TheVariants.{Inspected, Copied, Strange, Ignored}
-use Rattle.serving.specs.declared.request.Request.TheVariants.{Denied, Withheld}
 use Rattle.store.specs.declared.home.Home.{Home}
 use Rattle.wire.specs.Spelling.{spelling}
 
@@ -29,14 +22,7 @@ needs_key Stopped = true
 needs_key (Heard m) = true
 needs_key (Lagging m) = true
 needs_key (Learned run) = true
-needs_key (Asked id) = false
-needs_key (Printed event round position style) = false
-needs_key (Inspected differs) = false
-needs_key (Copied position) = false
-needs_key Strange = false
-needs_key Ignored = false
-needs_key Denied = false
-needs_key Withheld = false
+needs_key _ = false
 
 -- and a key of the hall: all of these but entering and Ticks
 abbrev pub needs_halls : Request → Bool
@@ -44,22 +30,12 @@ needs_halls Stopped = true
 needs_halls (Heard m) = true
 needs_halls (Lagging m) = true
 needs_halls (Learned run) = true
-needs_halls (Entered e) = false
-needs_halls Ticked = false
-needs_halls (Asked id) = false
-needs_halls (Printed event round position style) = false
-needs_halls (Inspected differs) = false
-needs_halls (Copied position) = false
-needs_halls Strange = false
-needs_halls Ignored = false
-needs_halls Denied = false
-needs_halls Withheld = false
+needs_halls _ = false
 
 -- What came is a client's preface, records whose tags fit under this key of the desk, numbered from
 -- 0, and a rest; and in the bodies of these records is this frame, after those before it.
 pub record IsUnderKey (locks : DeskKeys) (who : Holder) (server came : List ℕ)
-    (earlier : List Begun)
-    (one : Begun) : Type 0 where
+    (earlier : List Begun) (one : Begun) : Type 0 where
   pub key : List ℕ
   pub held : key_for locks who ≡ Some key
   pub client : List ℕ
@@ -67,16 +43,13 @@ pub record IsUnderKey (locks : DeskKeys) (who : Holder) (server came : List ℕ)
   pub rest : List ℕ
   pub more : List ℕ
   pub sixteen : length client ≡ 16
-  pub whole : came
-      ≡ preface_of client ++ (records (comes_under client server key) 0 bodies ++ rest)
+  pub whole : came ≡ preface_of client ++ (records (comes_under client server key) 0 bodies ++ rest)
   pub each : AreBodies 0 bodies
-  pub inside : joined bodies
-      ≡ flat_map spelling (frames_of earlier) ++ (spelling one.frame ++ more)
+  pub inside : joined bodies ≡ flat_map spelling (frames_of earlier) ++ (spelling one.frame ++ more)
 
 -- whose key it is; and where the frame needs a key of the hall, it is one
 pub record CameUnderKey (locks : DeskKeys) (server came : List ℕ) (earlier : List Begun)
-    (one : Begun)
-    (r : Request) : Type 0 where
+    (one : Begun) (r : Request) : Type 0 where
   pub who : Holder
   pub under : IsUnderKey locks who server came earlier one
   pub halls : IsTrue (needs_halls r) → IsHallKey locks under.key
@@ -86,7 +59,6 @@ pub record CameUnderKey (locks : DeskKeys) (server came : List ℕ) (earlier : L
 abbrev pub EachAsksUnderAKey : Type 0
 EachAsksUnderAKey =
     (home : Home) (locks : DeskKeys) (server came sent : List ℕ) (earlier later : List Served)
-    (one : Served)
-    → IsServedBehind home (Locked locks) server came sent (earlier ++ one ∷ later)
+    (one : Served) → IsServedBehind home (Locked locks) server came sent (earlier ++ one ∷ later)
     → IsTrue (needs_key (asked home one.one))
     → CameUnderKey locks server came (begun_of earlier) one.one (asked home one.one)

@@ -9,15 +9,11 @@ use Rattle.links.specs.Links.{LinkState}
 use Rattle.multiplex.specs.EachClient.{IsServedBehind}
 use Rattle.seal.specs.Records.{preface_of}
 use Rattle.seal_laws.specs.Keys.{AreRandom}
-use Rattle.sealed.specs.declared.callers.Access.TheVariants.{Locked}
-use Rattle.sealed.specs.declared.callers.DeskKeys.{DeskKeys}
-use Rattle.sealed.specs.ends.ClientStreams.{ClientStreamOf}
-use Rattle.sealed.specs.ends.Laws.{IsCall}
+use Rattle.sealed.specs.declared.callers.{Access.TheVariants.Locked, DeskKeys.DeskKeys}
+use Rattle.sealed.specs.ends.{ClientStreams.ClientStreamOf, Laws.IsCall}
 use Rattle.serving.specs.Connection.{asked, frames_of}
 use Rattle.store.specs.declared.home.Home.{Home}
-use Rattle.wire.specs.Ranges.{IsFrame}
-use Rattle.wire.specs.Spelling.{spelling}
-use Rattle.wire.specs.declared.frame.Frame.{Frame}
+use Rattle.wire.specs.{Ranges.IsFrame, Spelling.spelling, declared.frame.Frame.Frame}
 
 -- A link was pushed these frames. What it wrote on its connection with this number was given to the
 -- caller's end of it, under the hall's key, and what came to the other desk is a front part of what
@@ -60,8 +56,7 @@ pub record ComesAsPushed (frames before : List Frame) (one : Frame) : Type 0 whe
 abbrev pub MessagesComeAsPushed : Type 0
 MessagesComeAsPushed =
     (home : Home) (locks : DeskKeys) (server came sent : List ℕ) (frames : List Frame)
-    (earlier later : List Served) (one : Served)
-    → IsWay locks server came frames
+    (earlier later : List Served) (one : Served) → IsWay locks server came frames
     → IsServedBehind home (Locked locks) server came sent (earlier ++ one ∷ later)
     → IsTrue (delivers (asked home one.one))
     → ComesAsPushed frames (frames_of (begun_of earlier)) one.one.frame

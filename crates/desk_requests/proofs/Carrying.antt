@@ -2,16 +2,13 @@
 use Rattle.std.proofs.Common.{◌≡◌, ◌∷◌, [], inl, inr, Ok, Err, subst}
 use Rattle.batch.specs.Asking.{IsAnswer, IsOfAsking}
 use Rattle.batch.specs.Dialing.{Adds, Told, asked_so}
-use Rattle.batch.specs.declared.fault.BatchFault.{BatchFault}
-use Rattle.batch.proofs.Going.{adds_none}
-use Rattle.wire.specs.declared.frame.Frame.{Frame}
-use Rattle.wire.specs.declared.frame.FrameBody.{FrameBody}
+use Rattle.batch.{specs.declared.fault.BatchFault.BatchFault, proofs.Going.adds_none}
+use Rattle.wire.specs.declared.frame.{Frame.Frame, FrameBody.FrameBody}
 use Rattle.desk_requests.specs.Errands.{GetsAnswer, GetsNone, frame_of}
 use Rattle.desk_requests.specs.Statuses.{fault_of_batch}
-use Rattle.desk_requests.specs.declared.fault.DeskFault.{DeskFault}
-use Rattle.desk_requests.specs.declared.fault.DeskFault.TheVariants as fault
-use Rattle.desk_requests.specs.declared.requests.Errand.{Errand}
+use Rattle.desk_requests.specs.declared.{fault.DeskFault.DeskFault, requests.Errand.Errand}
 use Rattle.wire.specs.Ranges.{IsDesk}
+use Rattle.desk_requests.specs.declared.fault.DeskFault.TheVariants as fault
 
 pub gets_answer : (e : Errand) (asked : Frame) (answer : FrameBody) (t : Told) → asked ≡ frame_of e
     → IsAnswer asked answer

@@ -1,36 +1,27 @@
 -- Desks that are asked one after the other.
-use Rattle.std.proofs.Common.{◌≡◌, ◌≢◌, ◌≤◌, ◌++◌, ◌∷◌, [], ℕ, List, Option, Some, Result}
+use Rattle.std.proofs.Common.{◌≡◌, ◌≢◌, ◌≤◌, ◌++◌, ◌∷◌, [], ℕ, List, Option, sym, ◌∙◌, Ok, Err, inl}
+use Rattle.std.proofs.{Common.Some, Common.Result, lemmas.List.length-map, lemmas.List.take_all}
+use Rattle.std.{proofs.Common.None, specs.Borrow.Bor, specs.Io.KnownBytes.Appends}
+use Rattle.std.proofs.Common.{suc, ap, ap₂, append_assoc, arith, get_or, inr, length, refl, subst}
 use Rattle.acceptor.specs.declared.entry.Entry.{Entry}
-use Rattle.std.proofs.Common.{None, suc}
-use Rattle.std.proofs.Common.{ap, ap₂, append_assoc, arith, get_or, inr, length, refl, subst, sym}
-use Rattle.std.proofs.Common.{◌∙◌}
-use Rattle.std.proofs.Common.{Ok, Err, inl}
 use Rattle.batch.specs.Dialing.{Adds, Dialed, Place, asked_so}
 use Rattle.batch.specs.declared.fault.BatchFault.{BatchFault}
-use Rattle.standings.specs.declared.forms.Form.{Form}
-use Rattle.standings.specs.declared.polled.StatusReply.{StatusReply}
-use Rattle.standings.specs.declared.polled.StatusReply.TheVariants as reply
-use Rattle.wire.specs.declared.frame.Frame.{Frame}
-use Rattle.wire.specs.declared.frame.FrameBody.{FrameBody}
+use Rattle.standings.specs.{declared.forms.Form.Form, Reports.report, Standings.status_of}
+use Rattle.standings.specs.declared.polled.{StatusReply.StatusReply, PolledDesk.PolledDesk}
+use Rattle.wire.specs.declared.frame.{Frame.Frame, FrameBody.FrameBody}
 use Rattle.std.specs.Prelude.{◌+◌, ◌-◌, OnOk, drop, take}
-use Rattle.std.proofs.lemmas.List.{length-map, take_all}
-use Rattle.std.specs.Borrow.{Bor}
-use Rattle.standings.specs.declared.polled.PolledDesk.{PolledDesk}
-use Rattle.std.specs.Io.KnownBytes.{Appends}
 use Rattle.lines.specs.Bytes.{AppendsPart}
-use Rattle.lines.specs.declared.fault.RunFault.TheVariants as run
-use Rattle.standings.specs.Reports.{report}
-use Rattle.standings.specs.Standings.{status_of}
 use Rattle.desk_requests.specs.Comparing.{AsksLog, Compares, ComparesAll, ComparesMore, first_told}
 use Rattle.desk_requests.specs.Comparing.{common_length, other_in, standing_desk, with_other}
-use Rattle.desk_requests.specs.Polling.{AsksFor, FailsReport, IsPolled, IsPolledBy, Outside, PollsAll}
-use Rattle.desk_requests.specs.Polling.{PollsMore}
-use Rattle.desk_requests.specs.Polling.{Reports, Tries, foreign, others, place_at, reply_to, request_of}
+use Rattle.desk_requests.specs.Polling.{AsksFor, FailsReport, IsPolled, IsPolledBy, Outside}
+use Rattle.desk_requests.specs.Polling.{PollsAll, PollsMore, Reports, Tries, foreign, others}
+use Rattle.desk_requests.specs.Polling.{place_at, reply_to, request_of}
 use Rattle.desk_requests.specs.Watching.{FailsWatch, HasWatched, Watches}
 use Rattle.desk_requests.specs.declared.fault.DeskFault.{DeskFault}
+use Rattle.desk_requests.specs.declared.polling.{Inquiry.Inquiry, Question.Question}
+use Rattle.standings.specs.declared.polled.StatusReply.TheVariants as reply
+use Rattle.lines.specs.declared.fault.RunFault.TheVariants as run
 use Rattle.desk_requests.specs.declared.fault.DeskFault.TheVariants as fault
-use Rattle.desk_requests.specs.declared.polling.Inquiry.{Inquiry}
-use Rattle.desk_requests.specs.declared.polling.Question.{Question}
 use Rattle.desk_requests.specs.declared.polling.Question.TheVariants as asking
 
 -- the first of these desks was asked, and is the reply
@@ -76,8 +67,7 @@ asked_once p question next later hall desk desks a b first is one some = (
 polls_next : (q : Inquiry) (desk : ℕ) (first : Bor (List ℕ)) (rest : List (Bor (List ℕ)))
     (before mid after : List PolledDesk) (one : PolledDesk) (a b c : Option (List Dialed))
     → AsksFor q desk one first.now a b → mid ≡ before ++ one ∷ []
-    → PollsMore q (desk + 1) rest mid after b c
-    → PollsMore q desk (first ∷ rest) before after a c
+    → PollsMore q (desk + 1) rest mid after b c → PollsMore q desk (first ∷ rest) before after a c
 polls_next q desk first rest before mid after one a b c asks is more = (
   one ∷ more.0,
   more.1 ∙ ap (λ l. l ++ more.0) is ∙ append_assoc before (one ∷ []) more.0,
@@ -98,19 +88,15 @@ all_of_rest first rest = take_all (length (first ∷ rest) - 1) rest (omega arit
 pub polls_more : {A E : Type 0} (r : Result A E) (q : Inquiry) (desk : ℕ) (other : Bor (List ℕ))
     (addresses : List (Bor (List ℕ))) (before mid after : List PolledDesk) (one : PolledDesk)
     (a b c : Option (List Dialed)) → 1 ≤ length addresses
-    → AsksFor q desk one (get_or addresses 0 other).now a b
-    → mid ≡ before ++ one ∷ []
-    → OnOk r (PollsMore q (desk + 1) (take (length addresses - 1) (drop 1 addresses))
-    mid after b c)
+    → AsksFor q desk one (get_or addresses 0 other).now a b → mid ≡ before ++ one ∷ []
+    → OnOk r (PollsMore q (desk + 1) (take (length addresses - 1) (drop 1 addresses)) mid after b c)
     → OnOk r (PollsMore q desk addresses before after a c)
 polls_more r q desk other [] before mid after one a b c some asks is more =
     absurd (omega (arith, some))
-polls_more (Ok x) q desk other (first ∷ rest) before mid after one a b c some asks is
-    more =
+polls_more (Ok x) q desk other (first ∷ rest) before mid after one a b c some asks is more =
     polls_next q desk first rest before mid after one a b c asks is
     (subst (λ l. PollsMore q (desk + 1) l mid after b c) (all_of_rest first rest) more)
-polls_more (Err e) q desk other (first ∷ rest) before mid after one a b c some asks is
-    more = tt
+polls_more (Err e) q desk other (first ∷ rest) before mid after one a b c some asks is more = tt
 
 compares_next : (q : Inquiry) (position end : ℕ) (known told next : Option (List Entry))
     (other : Option ℕ) (one : PolledDesk) (rest before mid after : List PolledDesk)
@@ -130,8 +116,7 @@ compares_next q position end known told next other one rest before mid after a b
         subst (λ k. Compares q position end k rest more.0 b c) first more.1,
         ap (λ o. with_other one o ∷ more.0) is,
       ),
-      more.2 ∙ ap (λ l. l ++ more.0) added
-          ∙ append_assoc before (with_other one other ∷ []) more.0,
+      more.2 ∙ ap (λ l. l ++ more.0) added ∙ append_assoc before (with_other one other ∷ []) more.0,
     )
 
 -- one more was compared
@@ -141,19 +126,15 @@ pub compares_more : {A E : Type 0} (r : Result A E) (q : Inquiry) (position end 
     → AsksLog q position (get_or polled 0 default).address.now
     (standing_desk (get_or polled 0 default).reply) a b told
     → other ≡ other_in position end known told
-    → mid ≡ before ++ with_other (get_or polled 0 default) other ∷ []
-    → next ≡ first_told known told
+    → mid ≡ before ++ with_other (get_or polled 0 default) other ∷ [] → next ≡ first_told known told
     → OnOk r (ComparesMore q position end next (take (length polled - 1) (drop 1 polled)) mid after
-    b c)
-    → OnOk r (ComparesMore q position end known polled before after a c)
+    b c) → OnOk r (ComparesMore q position end known polled before after a c)
 compares_more r q position end known told next other default [] before mid after a b c some asks is
-    added first more =
-    absurd (omega (arith, some))
+    added first more = absurd (omega (arith, some))
 compares_more (Ok x) q position end known told next other default (one ∷ rest) before mid after a b
     c some asks is added first more =
     compares_next q position end known told next other one rest before mid after a b c asks is added
-    first
-    (subst (λ l. ComparesMore q position end next l mid after b c)
+    first (subst (λ l. ComparesMore q position end next l mid after b c)
     (take_all (length (one ∷ rest) - 1) rest (omega arith)) more)
 compares_more (Err e) q position end known told next other default (one ∷ rest) before mid after a b
     c some asks is added first more = tt
@@ -189,8 +170,7 @@ compares_length : (q : Inquiry) (position end : ℕ) (known : Option (List Entry
     → Compares q position end known polled compared old new → length compared ≡ length polled
 compares_length q position end known [] compared old new h = ap length h.0
 compares_length q position end known (p ∷ polled) compared old new h =
-    ap length h.5
-    ∙ ap suc
+    ap length h.5 ∙ ap suc
     (compares_length q position end (first_told known h.0) polled h.2 h.1 new h.4)
 
 -- they are as many as the addresses
@@ -230,8 +210,7 @@ unwritten form q polled shown text bytes o asked hs ht hb written =
 -- ---- again and again
 
 pub watches_more : (form : Form) (q : Inquiry) (times : List (List PolledDesk))
-    (polled : List PolledDesk)
-    (a b c : Option (List Dialed)) (old mid new : Option (List ℕ))
+    (polled : List PolledDesk) (a b c : Option (List Dialed)) (old mid new : Option (List ℕ))
     → Watches form q times a b old mid → PollsAll q polled b c
     → Appends mid new (report form q.hall polled)
     → Watches form q (times ++ polled ∷ []) a c old new

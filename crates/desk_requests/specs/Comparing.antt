@@ -1,17 +1,15 @@
 -- Whether the logs of a hall's desks are alike, as far as all have them (the project's own).
-use Rattle.std.specs.Prelude.{◌≡◌, ◌⊎◌, ◌+◌, ◌-◌, ◌++◌, ◌∷◌, [], ℕ, List, Option, None, Some, min}
-use Rattle.std.specs.Prelude.{Result, Ok, Err, if◌then◌else◌, nat_le, ◌&&◌}
-use Rattle.acceptor.specs.Entries.{is_same_entry}
-use Rattle.acceptor.specs.declared.entry.Entry.{Entry}
+use Rattle.std.specs.Prelude.{◌≡◌, ◌+◌, ◌-◌, ◌++◌, ◌∷◌, [], ℕ, List, Option, None, Some, min}
+use Rattle.std.specs.Prelude.{Result, Ok, if◌then◌else◌, nat_le, ◌&&◌}
+use Rattle.acceptor.specs.{Entries.is_same_entry, declared.entry.Entry.Entry}
 use Rattle.batch.specs.Dialing.{Adds, Dialed, Place, asked_so}
 use Rattle.batch.specs.declared.fault.BatchFault.{BatchFault}
 use Rattle.client.specs.Standings.{log_request}
 use Rattle.standings.specs.declared.polled.PolledDesk.{PolledDesk}
-use Rattle.standings.specs.declared.polled.StatusReply.{StatusReply}
-use Rattle.standings.specs.declared.polled.StatusReply.TheVariants.{Stands}
+use Rattle.standings.specs.declared.polled.StatusReply.{StatusReply, TheVariants.Stands}
 use Rattle.wire.specs.declared.frame.FrameBody.{FrameBody}
-use Rattle.wire.specs.declared.frame.FrameBody.TheVariants as what
 use Rattle.desk_requests.specs.declared.polling.Inquiry.{Inquiry}
+use Rattle.wire.specs.declared.frame.FrameBody.TheVariants as what
 
 -- where a desk of an inquiry is asked, for how many seconds it is waited for, and under which key
 abbrev pub place_at : Inquiry → List ℕ → Place
@@ -34,8 +32,7 @@ other_from position end [] told = None
 other_from position end (one ∷ known) [] = None
 other_from position end (one ∷ known) (other ∷ told) =
     if nat_le end position then None
-    else if is_same_entry one other then other_from (position + 1) end known told
-    else Some position
+    else if is_same_entry one other then other_from (position + 1) end known told else Some position
 
 -- the same of what two desks reported, where both did
 abbrev pub other_in : (position end : ℕ) → (known told : Option (List Entry)) → Option ℕ
@@ -53,8 +50,7 @@ entries_of _ = None
 
 -- the number of a desk that said how it is, where it is one that a desk can have
 abbrev pub standing_desk : StatusReply → Option ℕ
-standing_desk (Stands desk standing) =
-    if nat_le 1 desk && nat_le desk 5 then Some desk else None
+standing_desk (Stands desk standing) = if nat_le 1 desk && nat_le desk 5 then Some desk else None
 standing_desk _ = None
 
 -- such a desk was asked for its log from a position on, and reported these entries; another one was
@@ -69,8 +65,7 @@ AsksLog q position address (Some desk) old new told =
 
 -- a desk, and where its log has another entry
 abbrev pub with_other : PolledDesk → Option ℕ → PolledDesk
-with_other p other =
-    record { asked = p.asked; address = p.address; reply = p.reply; other = other }
+with_other p other = record { asked = p.asked; address = p.address; reply = p.reply; other = other }
 
 -- These desks were asked, one after the other. Each is given with where it has another entry than
 -- those that were known, or that the first one reported.

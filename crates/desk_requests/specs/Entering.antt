@@ -1,31 +1,22 @@
 -- Commands entered at a desk: those of an input, or one (the project's own).
 use Rattle.std.specs.Prelude.{◌≡◌, ◌⊎◌, ◌+◌, ◌-◌, ◌^◌, ◌≤◌, ◌<◌, ◌++◌, ◌∷◌, [], ℕ, Bool, true}
-use Rattle.std.specs.Prelude.{false, List}
-use Rattle.std.specs.Prelude.{length, take, codes, Option, Some, None}
+use Rattle.std.specs.Prelude.{false, List, length, take, codes, Option, Some, None}
 use Rattle.std.specs.Io.KnownBytes.{Appends, Keeps}
-use Rattle.batch.specs.Asking.{IsOfAsking}
-use Rattle.batch.specs.Dialing.{Adds, Told}
+use Rattle.batch.specs.{Asking.IsOfAsking, Logs.AddsSo, declared.lines_entered.Batch.Batch}
+use Rattle.batch.specs.{Dialing.Adds, Dialing.Told, Entering.texts_of, Entering.told_answer}
 use Rattle.batch.specs.Entering.{AsksAll, AsksSome, EnteredBy, Hinders, IsEntered, StopsAsking}
-use Rattle.batch.specs.Entering.{texts_of, told_answer}
-use Rattle.batch.specs.Logs.{AddsSo}
 use Rattle.batch.specs.Watching.{Telling, unheard}
-use Rattle.batch.specs.declared.asking.Receiver.{Receiver}
-use Rattle.batch.specs.declared.fault.BatchFault.{BatchFault}
-use Rattle.batch.specs.declared.lines_entered.Batch.{Batch}
+use Rattle.batch.specs.declared.{asking.Receiver.Receiver, fault.BatchFault.BatchFault}
 use Rattle.client.specs.Printing.{reply_text}
 use Rattle.texts.specs.meanings.Meanings.{meaning_of}
 use Rattle.lines.specs.command_file.Commands.{Numbered, ReadsCommands, StopsReading, numbered}
-use Rattle.lines.specs.command_file.Faults.{first_fault}
+use Rattle.lines.specs.{command_file.Faults.first_fault, declared.fault.RunFault.RunFault}
 use Rattle.lines.specs.Bytes.{AppendsPart, Sides}
-use Rattle.lines.specs.declared.fault.RunFault.{RunFault}
-use Rattle.lines.specs.declared.fault.RunFault.TheVariants as run
-use Rattle.texts.specs.declared.answer.Answer.{Answer}
-use Rattle.texts.specs.declared.answer.Answer.TheVariants.{Done, Refused}
-use Rattle.wire.specs.Ranges.{IsDesk}
-use Rattle.wire.specs.declared.frame.FrameBody.{FrameBody}
+use Rattle.texts.specs.declared.answer.Answer.{Answer, TheVariants.Done, TheVariants.Refused}
+use Rattle.wire.specs.{Ranges.IsDesk, declared.frame.FrameBody.FrameBody}
 use Rattle.arguments.specs.declared.task.EnterOptions.{EnterOptions}
-use Rattle.desk_requests.specs.Statuses.{fault_of_batch}
-use Rattle.desk_requests.specs.declared.fault.DeskFault.{DeskFault}
+use Rattle.desk_requests.specs.{Statuses.fault_of_batch, declared.fault.DeskFault.DeskFault}
+use Rattle.lines.specs.declared.fault.RunFault.TheVariants as run
 use Rattle.desk_requests.specs.declared.fault.DeskFault.TheVariants as fault
 
 -- this many ids in a row begin with this one
@@ -81,15 +72,13 @@ pub record FindsFault (l : EnterOptions) (commands : List Numbered) : Type 0 whe
 -- there is no memory
 abbrev pub IsUngood : DeskFault → EnterOptions → (had left : Option (List ℕ)) → Type 0
 IsUngood f l had left =
-    ((e : RunFault) × (f ≡ fault.Run e) × StopsReading e had left)
-    ⊎ (((f ≡ fault.NoCommand)
+    ((e : RunFault) × (f ≡ fault.Run e) × StopsReading e had left) ⊎ (((f ≡ fault.NoCommand)
     × (commands : List Numbered) × ReadsCommands commands had left × FindsFault l commands)
     ⊎ (f ≡ fault.Run run.NoMemory))
 
 -- or there are no random bytes for an id
 abbrev pub IsUnready : DeskFault → EnterOptions → (had left : Option (List ℕ)) → Type 0
-IsUnready f l had left =
-    IsUngood f l had left ⊎ ((f ≡ fault.Run run.Read) × (l.first_id ≡ None))
+IsUnready f l had left = IsUngood f l had left ⊎ ((f ≡ fault.Run run.Read) × (l.first_id ≡ None))
 
 -- nothing was written or asked
 pub record IsSilent (s : Sides) (t : Told) : Type 0 where
@@ -119,8 +108,7 @@ IsEnterable text = (fault_in text ≡ None) ⊎ (600 < length text)
 -- it is no command, or there is no memory
 abbrev pub IsUnenterable : DeskFault → List ℕ → Type 0
 IsUnenterable f text =
-    ((f ≡ fault.NoCommand) × (length text ≤ 600)
-    × (said : List ℕ) × (fault_in text ≡ Some said))
+    ((f ≡ fault.NoCommand) × (length text ≤ 600) × (said : List ℕ) × (fault_in text ≡ Some said))
     ⊎ (f ≡ fault.Run run.NoMemory)
 
 -- the exit status after a command that was answered so: 1 where it was refused
@@ -143,8 +131,7 @@ one_text last = meant (reply_text last) (told_answer last)
 -- the text was entered, with the id that was given or one that was drawn, and this was answered at
 -- last
 pub record Enters (r : Receiver) (given : Option ℕ) (waits : Bool) (text : List ℕ)
-    (last : FrameBody)
-    (t : Told) : Type 0 where
+    (last : FrameBody) (t : Told) : Type 0 where
   pub id : ℕ
   pub first_id : IsFirstId given 1 id
   pub entered : IsEntered waits r id text last

@@ -2,24 +2,19 @@
 use Rattle.std.specs.Prelude.{◌≡◌, ◌⊎◌, ◌∷◌, ◌++◌, [], ℕ, Bool, true, false, List, Option, Result}
 use Rattle.std.specs.Prelude.{Ok, Err, codes, decimal}
 use Rattle.std.specs.Io.KnownBytes.{Keeps, Appends}
-use Rattle.batch.specs.Asking.{IsAnswer, IsOfAsking}
+use Rattle.batch.specs.{Asking.IsAnswer, Asking.IsOfAsking, declared.fault.BatchFault.BatchFault}
 use Rattle.batch.specs.Dialing.{Adds, Told, asked_so}
-use Rattle.batch.specs.declared.fault.BatchFault.{BatchFault}
-use Rattle.client.specs.Printing.{reply_text}
-use Rattle.client.specs.Versions.{sheet_version}
+use Rattle.client.specs.{Printing.reply_text, Versions.sheet_version}
 use Rattle.lines.specs.Bytes.{AppendsPart}
-use Rattle.lines.specs.declared.fault.RunFault.TheVariants as run
 use Rattle.wire.specs.Ranges.{IsDesk}
-use Rattle.wire.specs.declared.values.Version.{Version}
-use Rattle.wire.specs.declared.values.Version.TheVariants.{One, Four}
-use Rattle.wire.specs.declared.frame.Frame.{Frame}
-use Rattle.wire.specs.declared.frame.FrameBody.{FrameBody}
-use Rattle.wire.specs.declared.frame.FrameBody.TheVariants as what
+use Rattle.wire.specs.declared.values.Version.{Version, TheVariants.One, TheVariants.Four}
+use Rattle.wire.specs.declared.frame.{Frame.Frame, FrameBody.FrameBody}
 use Rattle.desk_requests.specs.Statuses.{fault_of_batch}
-use Rattle.desk_requests.specs.declared.fault.DeskFault.{DeskFault}
-use Rattle.desk_requests.specs.declared.fault.DeskFault.TheVariants as fault
-use Rattle.desk_requests.specs.declared.requests.Errand.{Errand}
+use Rattle.desk_requests.specs.declared.{fault.DeskFault.DeskFault, requests.Errand.Errand}
 use Rattle.arguments.specs.declared.task.ClientRequest.{ClientRequest}
+use Rattle.lines.specs.declared.fault.RunFault.TheVariants as run
+use Rattle.wire.specs.declared.frame.FrameBody.TheVariants as what
+use Rattle.desk_requests.specs.declared.fault.DeskFault.TheVariants as fault
 use Rattle.arguments.specs.declared.task.ClientRequest.TheVariants as request
 
 abbrev pub what_of : ClientRequest → FrameBody

@@ -2,22 +2,17 @@
 use Rattle.std.specs.Prelude.{◌≡◌, ◌⊎◌, [], ℕ, List, Option}
 use Rattle.std.specs.Io.KnownBytes.{Keeps, Appends}
 use Rattle.acceptor.specs.declared.entry.Entry.{Entry}
-use Rattle.archive.specs.Archive.{archive_from}
-use Rattle.archive.specs.Replayed.{IsReplayed}
-use Rattle.batch.specs.Asking.{IsOfAsking}
-use Rattle.batch.specs.Dialing.{Adds, Told}
+use Rattle.archive.specs.{Archive.archive_from, Replayed.IsReplayed}
+use Rattle.batch.specs.{Asking.IsOfAsking, Dialing.Adds, Dialing.Told}
 use Rattle.batch.specs.Logs.{AddsSo, FailsLog, TellsLog}
-use Rattle.batch.specs.declared.asking.Receiver.{Receiver}
-use Rattle.batch.specs.declared.fault.BatchFault.{BatchFault}
+use Rattle.batch.specs.declared.{asking.Receiver.Receiver, fault.BatchFault.BatchFault}
 use Rattle.log_rows.specs.Rows.{rows}
 use Rattle.lines.specs.Bytes.{AppendsPart}
 use Rattle.wire.specs.Ranges.{IsDesk}
-use Rattle.desk_requests.specs.Errands.{IsOfPrinting}
-use Rattle.desk_requests.specs.Statuses.{fault_of_batch}
+use Rattle.desk_requests.specs.{Errands.IsOfPrinting, Statuses.fault_of_batch}
 use Rattle.desk_requests.specs.declared.fault.DeskFault.{DeskFault}
+use Rattle.desk_requests.specs.declared.logs.LogForm.{LogForm, TheVariants.Lines, TheVariants.Rows}
 use Rattle.desk_requests.specs.declared.fault.DeskFault.TheVariants as fault
-use Rattle.desk_requests.specs.declared.logs.LogForm.{LogForm}
-use Rattle.desk_requests.specs.declared.logs.LogForm.TheVariants.{Lines, Rows}
 
 -- what is printed of a log from a position on
 abbrev pub printed_log : LogForm → ℕ → List Entry → List ℕ
@@ -56,5 +51,4 @@ FailsPrinting f r form from t old new =
 abbrev pub FailsTold : DeskFault → Receiver → LogForm → ℕ → Told → Option (List ℕ)
     → Option (List ℕ) → Type 0
 FailsTold f r form from t old new =
-    RefusesDesk f r t old new
-    ⊎ (FailsTelling f r t old new ⊎ FailsPrinting f r form from t old new)
+    RefusesDesk f r t old new ⊎ (FailsTelling f r t old new ⊎ FailsPrinting f r form from t old new)

@@ -1,20 +1,13 @@
 -- What is printed of the newest sheet of a round (the project's own).
 use Rattle.std.specs.Prelude.{◌≡◌, ◌⊎◌, ℕ, List, Option}
 use Rattle.std.specs.Io.KnownBytes.{Keeps, Appends}
-use Rattle.batch.specs.Asking.{IsOfAsking}
-use Rattle.batch.specs.Dialing.{Told}
-use Rattle.batch.specs.Logs.{AddsSo}
-use Rattle.batch.specs.Newest.{FailsNewest, GivesNewest}
-use Rattle.batch.specs.declared.asking.Receiver.{Receiver}
-use Rattle.batch.specs.declared.fault.BatchFault.{BatchFault}
-use Rattle.batch.specs.declared.newest_asked.RoundSheet.{RoundSheet}
+use Rattle.batch.specs.{Asking.IsOfAsking, Dialing.Told, Logs.AddsSo, Newest.FailsNewest}
+use Rattle.batch.specs.{Newest.GivesNewest, declared.newest_asked.RoundSheet.RoundSheet}
+use Rattle.batch.specs.declared.{asking.Receiver.Receiver, fault.BatchFault.BatchFault}
 use Rattle.client.specs.Printing.{reply_text}
 use Rattle.lines.specs.Bytes.{AppendsPart}
-use Rattle.wire.specs.Ranges.{IsDesk}
-use Rattle.wire.specs.declared.frame.FrameBody.{FrameBody}
-use Rattle.desk_requests.specs.Errands.{IsOfPrinting}
-use Rattle.desk_requests.specs.Logs.{RefusesDesk}
-use Rattle.desk_requests.specs.Statuses.{fault_of_batch}
+use Rattle.wire.specs.{Ranges.IsDesk, declared.frame.FrameBody.FrameBody}
+use Rattle.desk_requests.specs.{Errands.IsOfPrinting, Logs.RefusesDesk, Statuses.fault_of_batch}
 use Rattle.desk_requests.specs.declared.fault.DeskFault.{DeskFault}
 
 -- the desk was asked for its length and for the sheet at that length, and its answer was written
@@ -40,5 +33,4 @@ FailsWriting f r s t old new =
 abbrev pub FailsToPrint : DeskFault → Receiver → RoundSheet → Told → Option (List ℕ)
     → Option (List ℕ) → Type 0
 FailsToPrint f r s t old new =
-    RefusesDesk f r t old new
-    ⊎ (FailsAsking f r s t old new ⊎ FailsWriting f r s t old new)
+    RefusesDesk f r t old new ⊎ (FailsAsking f r s t old new ⊎ FailsWriting f r s t old new)

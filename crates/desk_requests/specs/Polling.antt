@@ -1,39 +1,30 @@
 -- Asking the desks of a hall how they are, one after the other (the project's own).
 use Rattle.std.specs.Prelude.{◌≡◌, ◌≢◌, ◌⊎◌, ◌+◌, ◌++◌, ◌∷◌, [], ℕ, List, map, Option, None, Some}
 use Rattle.std.specs.Prelude.{Result, Ok, Err, not, ◌==◌}
-use Rattle.std.specs.Borrow.{Bor}
-use Rattle.std.specs.List.{filter}
-use Rattle.std.specs.Io.KnownBytes.{Keeps, Appends}
+use Rattle.std.specs.{Borrow.Bor, List.filter, Io.KnownBytes.Keeps, Io.KnownBytes.Appends}
 use Rattle.batch.specs.Dialing.{Adds, Dialed, Place, asked_so}
 use Rattle.batch.specs.declared.fault.BatchFault.{BatchFault}
-use Rattle.batch.specs.declared.fault.BatchFault.TheVariants as batch
 use Rattle.client.specs.Standings.{status_request, status_request_in_five}
-use Rattle.client.specs.declared.fault.ClientFault.TheVariants as client
 use Rattle.lines.specs.Bytes.{AppendsPart}
-use Rattle.standings.specs.Reports.{report}
+use Rattle.standings.specs.{Reports.report, declared.forms.Form.Form}
 use Rattle.standings.specs.Standings.{every_desk, status_of}
-use Rattle.standings.specs.declared.forms.Form.{Form}
-use Rattle.standings.specs.declared.polled.PolledDesk.{PolledDesk}
-use Rattle.standings.specs.declared.polled.StatusReply.{StatusReply}
+use Rattle.standings.specs.declared.polled.{PolledDesk.PolledDesk, StatusReply.StatusReply}
+use Rattle.wire.specs.declared.frame.{Frame.Frame, FrameBody.FrameBody}
+use Rattle.wire.specs.declared.values.{ClientRefusal.TheVariants.Foreign, Version.TheVariants.One}
+use Rattle.desk_requests.specs.{Comparing.ComparesAll, declared.fault.DeskFault.DeskFault}
+use Rattle.desk_requests.specs.declared.polling.{Inquiry.Inquiry, Question.Question}
+use Rattle.batch.specs.declared.fault.BatchFault.TheVariants as batch
+use Rattle.client.specs.declared.fault.ClientFault.TheVariants as client
 use Rattle.standings.specs.declared.polled.StatusReply.TheVariants as reply
-use Rattle.wire.specs.declared.frame.Frame.{Frame}
-use Rattle.wire.specs.declared.frame.FrameBody.{FrameBody}
 use Rattle.wire.specs.declared.frame.FrameBody.TheVariants as what
-use Rattle.wire.specs.declared.values.ClientRefusal.TheVariants.{Foreign}
-use Rattle.wire.specs.declared.values.Version.TheVariants.{One}
 use Rattle.lines.specs.declared.fault.RunFault.TheVariants as run
 pub use Rattle.desk_requests.specs.Comparing.{place_at}
-use Rattle.desk_requests.specs.Comparing.{ComparesAll}
-use Rattle.desk_requests.specs.declared.fault.DeskFault.{DeskFault}
 use Rattle.desk_requests.specs.declared.fault.DeskFault.TheVariants as fault
-use Rattle.desk_requests.specs.declared.polling.Inquiry.{Inquiry}
-use Rattle.desk_requests.specs.declared.polling.Question.{Question}
 use Rattle.desk_requests.specs.declared.polling.Question.TheVariants as asking
 
 -- the request that asks what became of id 1, in version 1 of the wire
 abbrev pub id_asked : (hall desk : ℕ) → Frame
-id_asked hall desk =
-    record { version = One; hall = hall; from = 0; to = desk; what = what.Ask 1 }
+id_asked hall desk = record { version = One; hall = hall; from = 0; to = desk; what = what.Ask 1 }
 
 -- the request that asks a desk
 abbrev pub request_of : Question → (hall desk : ℕ) → Frame
@@ -95,8 +86,7 @@ IsPolledBy p question (next ∷ later) hall desk old new said =
 -- how the desk is, and how another one differs; then what desks of earlier programs are asked: how
 -- the desk is, and what became of an id
 abbrev pub IsPolled : Place → (hall desk : ℕ) → (old new : Option (List Dialed))
-    → Option StatusReply
-    → Type 0
+    → Option StatusReply → Type 0
 IsPolled p hall desk old new said =
     IsPolledBy p asking.Fully (asking.Standing ∷ asking.Id ∷ []) hall desk old new said
 
@@ -122,8 +112,7 @@ abbrev pub PollsMore : Inquiry → (desk : ℕ) → List (Bor (List ℕ)) → (b
     → (old new : Option (List Dialed)) → Type 0
 PollsMore q desk addresses before after old new =
     (more : List PolledDesk) × (after ≡ before ++ more)
-    × (map (λ p. p.address.now) more ≡ map (λ a. a.now) addresses)
-    × Polls q desk more old new
+    × (map (λ p. p.address.now) more ≡ map (λ a. a.now) addresses) × Polls q desk more old new
 
 -- those of an inquiry were asked, the first as desk 1, and then their logs were compared
 pub record PollsAll (q : Inquiry) (polled : List PolledDesk)

@@ -2,14 +2,13 @@
 -- project's own).
 use Rattle.std.specs.Prelude.{◌++◌, ℕ, List, codes, decimal}
 use Rattle.client.specs.declared.fault.ClientFault.{ClientFault}
-use Rattle.client.specs.declared.fault.ClientFault.TheVariants as client
 use Rattle.fault_lines.specs.Statuses.{status_of_run}
+use Rattle.batch.specs.declared.{dialing.Contact.Contact, fault.BatchFault.BatchFault}
+use Rattle.desk_requests.specs.declared.fault.DeskFault.{DeskFault}
+use Rattle.client.specs.declared.fault.ClientFault.TheVariants as client
 pub use Rattle.hall_file.specs.hall_options.Mistakes.{key_status}
 use Rattle.lines.specs.declared.fault.RunFault.TheVariants as run
-use Rattle.batch.specs.declared.dialing.Contact.{Contact}
-use Rattle.batch.specs.declared.fault.BatchFault.{BatchFault}
 use Rattle.batch.specs.declared.fault.BatchFault.TheVariants as batch
-use Rattle.desk_requests.specs.declared.fault.DeskFault.{DeskFault}
 use Rattle.desk_requests.specs.declared.fault.DeskFault.TheVariants as fault
 
 abbrev pub status_of : DeskFault → ℕ

@@ -3,11 +3,9 @@ use Rattle.std.specs.Prelude.{◌≡◌, [], ◌∷◌, ℕ, List, Option}
 use Rattle.std.specs.Io.KnownBytes.{Appends}
 use Rattle.batch.specs.Dialing.{Dialed}
 use Rattle.standings.specs.Reports.{report}
-use Rattle.standings.specs.declared.forms.Form.{Form}
-use Rattle.standings.specs.declared.polled.PolledDesk.{PolledDesk}
+use Rattle.standings.specs.declared.{forms.Form.Form, polled.PolledDesk.PolledDesk}
 use Rattle.desk_requests.specs.Polling.{FailsReport, Outside, PollsAll}
-use Rattle.desk_requests.specs.declared.fault.DeskFault.{DeskFault}
-use Rattle.desk_requests.specs.declared.polling.Inquiry.{Inquiry}
+use Rattle.desk_requests.specs.declared.{fault.DeskFault.DeskFault, polling.Inquiry.Inquiry}
 
 -- all desks were asked this many times, one time after the other, each time with these answers, and
 -- the report on them was written before they were asked again

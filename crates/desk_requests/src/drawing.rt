@@ -1,6 +1,6 @@
 //! What nobody gave: ids, and the random bytes of a connection.
 
-ghost use Rattle.std.specs.Prelude.{◌≤◌, IfErr, IfOk, ◌≡◌};
+ghost use Rattle.std.specs.Prelude.{IfErr, IfOk, ◌≡◌};
 ghost use Rattle.desk_requests.specs.Entering.{HasRoom};
 ghost use Rattle.desk_requests.specs.declared.fault.DeskFault.TheVariants as desk_fault;
 ghost use Rattle.lines.specs.declared.fault.RunFault.TheVariants as run_fault;

@@ -2,17 +2,15 @@
 
 ghost use Rattle.std.specs.Prelude.{◌≡◌, ◌≤◌, None, IfErr, IfOk, OnErr, OnOk, length};
 ghost use Rattle.std.specs.Io.KnownBytes.{Appends};
-ghost use Rattle.batch.specs.Dialing.{told};
+ghost use Rattle.batch.specs.{Dialing.told, Watching.unheard};
 ghost use Rattle.batch.specs.Entering.{AsksAll, AsksSome, texts_of, told_answer};
-ghost use Rattle.batch.specs.Watching.{unheard};
-ghost use Rattle.desk_requests.specs.Entering.{EntersInput, EntersOne, FailsInput, FailsOne};
-ghost use Rattle.desk_requests.specs.Entering.{IsEnterable, IsFirstId, IsGood, IsOfPrinting};
-ghost use Rattle.desk_requests.specs.Entering.{IsUnenterable, IsUngood, answer_status, meant};
-ghost use Rattle.desk_requests.specs.Entering.{one_text};
-ghost use Rattle.desk_requests.specs.declared.fault.DeskFault.TheVariants as desk_fault;
+ghost use Rattle.desk_requests.specs.Entering.{EntersInput, EntersOne, FailsInput, IsEnterable};
+ghost use Rattle.desk_requests.specs.Entering.{FailsOne, IsFirstId, IsUngood, meant, one_text};
+ghost use Rattle.desk_requests.specs.Entering.{IsGood, IsOfPrinting, IsUnenterable, answer_status};
 ghost use Rattle.lines.specs.Bytes.{AppendsPart, sides};
-ghost use Rattle.lines.specs.declared.fault.RunFault.TheVariants as run_fault;
 ghost use Rattle.wire.specs.Ranges.{IsDesk};
+ghost use Rattle.desk_requests.specs.declared.fault.DeskFault.TheVariants as desk_fault;
+ghost use Rattle.lines.specs.declared.fault.RunFault.TheVariants as run_fault;
 
 use crate::drawing::drawn_id;
 use crate::fault::DeskFault;
@@ -37,8 +35,7 @@ const LINE_1: &[u8] = b"line 1: ";
 /// The id of the first of this many commands: the one that is given, or one that is drawn.
 fn first_id<T: RandomSource>(source: &T, given: Option<u64>, count: u32) -> Result<u64, DeskFault>
     ensures id { IfOk result (IsFirstId given count) }
-    ensures err { IfErr result
-        (λ f. (f ≡ desk_fault.Run run_fault.Read) × (given ≡ None)) }
+    ensures err { IfErr result (λ f. (f ≡ desk_fault.Run run_fault.Read) × (given ≡ None)) }
 {
     match given {
         Some(id) => Ok(id),

@@ -1,14 +1,12 @@
 //! How the desks of a hall are, asked one after the other and printed.
 
-ghost use Rattle.std.specs.Prelude.{◌≡◌, ◌≢◌, ◌≤◌, ◌+◌, ◌∷◌, [], None, Some, false, length};
-ghost use Rattle.std.specs.Prelude.{IfErr, IfOk, IsTrue, OnOk};
-ghost use Rattle.std.specs.List.{AllByRecursion};
+ghost use Rattle.std.specs.Prelude.{◌≡◌, ◌≢◌, ◌≤◌, ◌+◌, ◌∷◌, [], None, Some, false, length, IfErr};
+ghost use Rattle.std.specs.{Prelude.IfOk, Prelude.IsTrue, Prelude.OnOk, List.AllByRecursion};
 ghost use Rattle.batch.specs.Dialing.{place_of};
 ghost use Rattle.wire.specs.Ranges.{IsDesk, IsFrame};
 ghost use Rattle.desk_requests.specs.Polling.{AsksFor, FailsReport, IsPolled, IsPolledBy, PollsAll};
-ghost use Rattle.desk_requests.specs.Polling.{PollsMore};
-ghost use Rattle.desk_requests.specs.Polling.{Reports, Tries, foreign, id_asked, other_reply};
-ghost use Rattle.desk_requests.specs.Polling.{others, outside, reply_to, request_of};
+ghost use Rattle.desk_requests.specs.Polling.{PollsMore, Reports, Tries, foreign, id_asked};
+ghost use Rattle.desk_requests.specs.Polling.{other_reply, others, outside, reply_to, request_of};
 ghost use Rattle.desk_requests.specs.Watching.{FailsWatch, HasWatched};
 ghost use Rattle.desk_requests.specs.declared.polling.Question.TheVariants as asking;
 ghost use Rattle.standings.specs.declared.polled.StatusReply.TheVariants as reply;

@@ -1,6 +1,6 @@
 //! When something is to be said of commands that are entered, and how fast they are.
 
-ghost use Rattle.std.specs.Prelude.{◌≡◌, ◌+◌, ◌-◌, ◌*◌, ◌/◌, ◌<◌, ◌≤◌, Bool, nat_le};
+ghost use Rattle.std.specs.Prelude.{◌≡◌, ◌-◌, ◌*◌, ◌/◌, ◌<◌, nat_le};
 
 /// Whether this many milliseconds have passed since a moment.
 pub(crate) fn is_due(now: u64, since: u64, between: u64) -> bool

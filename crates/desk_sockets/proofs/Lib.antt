@@ -1,2 +1,3 @@
-pub mod Fitting
+pub mod Answering
 pub mod Reaching
+pub mod Driving

@@ -1,7 +1,6 @@
 -- Calls of a dialogue, one after the other.
-use Rattle.std.proofs.Common.{ℕ, List, [], ◌∷◌, ◌++◌, refl, subst}
-use Rattle.desk_talks.specs.Dialogues.{Call, CallsLead, Reaches}
-use Rattle.desk_sockets.specs.Asking.{AsksNow}
+use Rattle.std.proofs.Common.{List, [], ◌∷◌, ◌++◌, refl, subst}
+use Rattle.desk_talks.specs.Dialogues.{CallsLead, Reaches}
 
 -- calls that are made after others
 then : {C S : Type 0} (Leads : C → S → S → Type 0) (xs ys : List C) (a b c : S)
@@ -23,16 +22,4 @@ pub both : {C S : Type 0} {Leads : C → S → S → Type 0} {a b c : S} → Rea
 both {C} {S} {Leads} {a} {b} {c} first later = record {
   calls = first.calls ++ later.calls;
   lead = then Leads first.calls later.calls a b c first.lead later.lead;
-}
-
--- calls are made before and after those among which one asks what is to be done
-pub amid : {S : Type 0} {Leads : Call → S → S → Type 0} {now : ℕ} {a b c d : S} → Reaches Leads a b
-    → AsksNow Leads now b c → Reaches Leads c d → AsksNow Leads now a d
-amid first asks later = record {
-  wish = asks.wish;
-  before = asks.before;
-  after = asks.after;
-  first = both first asks.first;
-  acts = asks.acts;
-  later = both asks.later later;
 }

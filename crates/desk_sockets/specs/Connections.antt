@@ -1,26 +1,71 @@
--- What becomes of a connection when it is read or written (the project's own).
-use Rattle.std.specs.Prelude.{◌≡◌, ℕ, List, Bool, true, false, Option, None, Some, is_some}
-use Rattle.sealed.specs.ends.ClientStreams.{ClientStreamOf, own_key}
-use Rattle.desk_talks.specs.declared.dialogue.ReceiveOutcome.{ReceiveOutcome}
-use Rattle.desk_talks.specs.declared.dialogue.ReceiveOutcome.TheVariants as came
-use Rattle.desk_sockets.specs.declared.connection.NextStep.{NextStep}
-use Rattle.desk_sockets.specs.declared.connection.NextStep.TheVariants as after
-use Rattle.desk_sockets.specs.Troubles.{fits}
+-- What a contract sees of the connection to a desk (the project's own).
+use Rattle.std.specs.Prelude.{◌≡◌, Option, List, ℕ, [], None, Bool, true, false}
+use Rattle.sealed.specs.declared.ends.trouble.CallTrouble.{CallTrouble}
+use Rattle.desk_sockets.specs.{Keying.KeysOf, Troubles.confirmed}
+use Rattle.desk_sockets.specs.Answering.{AnsweringOf, forgotten, heard}
+use Rattle.desk_sockets.specs.declared.desk_connection.ConnectionOutcome.{ConnectionOutcome}
+use Rattle.desk_sockets.specs.declared.desk_connection.ConnectionTrouble.{ConnectionTrouble}
+use Rattle.desk_sockets.specs.declared.desk_connection.Opening.{Opening}
+use Rattle.desk_sockets.specs.declared.desk_connection.ConnectionOutcome.TheVariants as heard_is
+use Rattle.desk_sockets.specs.declared.desk_connection.ConnectionTrouble.TheVariants as trouble_is
+use Rattle.desk_sockets.specs.declared.desk_connection.Opening.TheVariants as opening_is
 
--- what is to be done after a dialogue took bytes: what is no answer ends the connection
-abbrev pub after_came : ReceiveOutcome → NextStep
-after_came came.Nothing = after.More
-after_came (came.Answer changed) = after.More
-after_came came.NoAnswer = after.Ended None
+-- the keys, whether the next connection is under the former one, what went wrong last, what is
+-- wrong with the keys, what the last connection that ended told of that, and who answers
+pub record ConnectionOf : Type 0 where
+  pub keys : KeysOf
+  pub turned : Bool
+  pub last : ConnectionTrouble
+  pub trouble : Option CallTrouble
+  pub suspected : Option CallTrouble
+  pub who : AnsweringOf
 
--- nothing is wrong with the keys
-abbrev pub is_harmless : NextStep → Bool
-is_harmless (after.Ended (Some trouble)) = false
-is_harmless _ = true
+abbrev pub connection : KeysOf → Bool → ConnectionTrouble → (trouble suspected : Option CallTrouble)
+    → AnsweringOf → ConnectionOf
+connection keys turned last trouble suspected who = record {
+  keys = keys;
+  turned = turned;
+  last = last;
+  trouble = trouble;
+  suspected = suspected;
+  who = who;
+}
 
--- a connection that goes on is under this key still, or under none still; of one that has ended,
--- what is wrong is what can be wrong
-abbrev pub Follows : NextStep → Option (List ℕ) → ClientStreamOf → Type 0
-Follows after.More key c = own_key c ≡ key
-Follows after.Later key c = own_key c ≡ key
-Follows (after.Ended trouble) key c = fits (is_some key) trouble ≡ true
+-- nothing was connected yet
+pub record IsFresh (given : KeysOf) (s : ConnectionOf) : Type 0 where
+  pub keys : s.keys ≡ given
+  pub turned : s.turned ≡ false
+  pub trouble : s.trouble ≡ None
+  pub suspected : s.suspected ≡ None
+
+-- what is known of the keys once a connection ended: something is wrong with them once two in a row
+-- told the same
+pub record Notes (told : Option CallTrouble) (old new : ConnectionOf) : Type 0 where
+  pub trouble : new.trouble ≡ confirmed old.trouble old.suspected told
+  pub suspected : new.suspected ≡ told
+
+-- a connection is begun, on which nothing was said; where it can't be begun, it isn't known any
+-- more who answers
+abbrev pub who_begun : Bool → AnsweringOf → AnsweringOf
+who_begun true a = record a { front = [] }
+who_begun false a = forgotten (record a { front = [] })
+
+-- nor after a connection could not be opened
+abbrev pub who_at : Opening → AnsweringOf → AnsweringOf
+who_at opening_is.Failed a = forgotten a
+who_at opening_is.Later a = a
+who_at opening_is.Open a = a
+
+-- something may be said while it is being opened
+abbrev pub IsWhoAt : Opening → (old new : AnsweringOf) → Type 0
+IsWhoAt o old new = (said : List ℕ) × (new ≡ who_at o (heard said old))
+
+-- nor after it broke by its keys
+abbrev pub who_by : ConnectionTrouble → AnsweringOf → AnsweringOf
+who_by (trouble_is.Key trouble) a = forgotten a
+who_by (trouble_is.System kind) a = a
+
+abbrev pub who_in : ConnectionOutcome → ConnectionTrouble → AnsweringOf → AnsweringOf
+who_in heard_is.Broke trouble a = who_by trouble a
+who_in heard_is.Nothing trouble a = a
+who_in heard_is.Ended trouble a = a

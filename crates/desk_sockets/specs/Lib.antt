@@ -1,4 +1,6 @@
+pub mod Answering
 pub mod Troubles
+pub mod Keying
 pub mod Connections
-pub mod Streams
+pub mod Wires
 pub mod Asking

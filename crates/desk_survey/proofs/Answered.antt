@@ -1,26 +1,23 @@
 -- What a survey tells after calls: what the desk answered.
 use Rattle.std.proofs.Common.{◌≡◌, ℕ, List, [], ◌∷◌, Option, None, Some, Bool, true, false, refl}
 use Rattle.std.proofs.Common.{sym, subst, ap, ◌∙◌, Ok, inl, inr, if◌then◌else◌}
-use Rattle.client.specs.Answers.{judged}
-use Rattle.client.specs.Standings.{status_request, status_request_in_five}
-use Rattle.wire.specs.declared.frame.Frame.{Frame}
-use Rattle.wire.specs.declared.frame.FrameBody.{FrameBody}
-use Rattle.wire.specs.declared.frame.FrameBody.TheVariants as what
+use Rattle.client.specs.{Answers.judged, Standings.status_request, Standings.status_request_in_five}
+use Rattle.wire.specs.declared.frame.{Frame.Frame, FrameBody.FrameBody}
 use Rattle.desk_talks.specs.Dialogues.{Act, Call, CallsLead, Hear, Lost, Opened, Sent}
 use Rattle.desk_talks.specs.KeptConnections.{HearsOver, KeptConnectionOf, due_of}
 use Rattle.desk_talks.specs.declared.dialogue.ReceiveOutcome.{ReceiveOutcome}
 use Rattle.desk_talks.specs.declared.dialogue.DialogueAction.{DialogueAction}
-use Rattle.desk_talks.specs.declared.dialogue.DialogueAction.TheVariants as wish
-use Rattle.desk_talks.specs.declared.kept_connection.DueAction.{DueAction}
-use Rattle.desk_talks.specs.declared.kept_connection.DueAction.TheVariants as due
-use Rattle.desk_talks.specs.declared.exchange.AnswerOutcome.{AnswerOutcome}
-use Rattle.desk_talks.specs.declared.exchange.AnswerOutcome.TheVariants as heard
+use Rattle.desk_talks.{specs.declared.kept_connection.DueAction.DueAction, proofs.Saying.opens_over}
+use Rattle.desk_talks.{specs.declared.exchange.AnswerOutcome.AnswerOutcome, proofs.Saying.sent_over}
 use Rattle.desk_talks.proofs.Saying.{IsAnsweredBy, SaysOver, answered_over, asks_over, hears_over}
-use Rattle.desk_talks.proofs.Saying.{opens_over, sent_over}
 use Rattle.desk_survey.specs.Histories.{AsksHow, IsAnswered, TellsWhatWasAnswered}
 use Rattle.desk_survey.specs.Surveys.{ActsBy, Asks, DialogueLeads, Follows, FollowsAnswer, Opens}
 use Rattle.desk_survey.specs.Surveys.{SurveyOf, given_up, lost, new_survey, question, with_line}
 use Rattle.desk_survey.specs.declared.survey.SurveyAnswer.{SurveyAnswer}
+use Rattle.wire.specs.declared.frame.FrameBody.TheVariants as what
+use Rattle.desk_talks.specs.declared.dialogue.DialogueAction.TheVariants as wish
+use Rattle.desk_talks.specs.declared.kept_connection.DueAction.TheVariants as due
+use Rattle.desk_talks.specs.declared.exchange.AnswerOutcome.TheVariants as heard
 
 abbrev IsQuestion : ℕ → ℕ → Frame → Type 0
 IsQuestion hall desk question = AsksHow hall desk question
@@ -53,8 +50,7 @@ after_given_up hall desk old new of e =
     subst (IsOf hall desk) (sym e)
     (record { hall_is = of.hall_is; desk_is = of.desk_is; says = tt; told = of.told })
 
-asks_how : (hall desk : ℕ) (earlier : Bool)
-    → AsksHow hall desk
+asks_how : (hall desk : ℕ) (earlier : Bool) → AsksHow hall desk
     (if earlier then status_request hall desk else status_request_in_five hall desk)
 asks_how hall desk true = inl refl
 asks_how hall desk false = inr refl
@@ -67,8 +63,7 @@ question_is hall desk s of =
 after_ask : (hall desk : ℕ) (w : DialogueAction) (now : ℕ) (old new : SurveyOf) → IsOf hall desk old
     → Asks w now old new → IsOf hall desk new
 after_ask hall desk wish.Write now old new of (line, asks, e) =
-    subst (IsOf hall desk) (sym e)
-    (over hall desk old line of
+    subst (IsOf hall desk) (sym e) (over hall desk old line of
     (asks_over (IsQuestion hall desk) now (question old) old.line line
     (question_is hall desk old of) asks))
 after_ask hall desk wish.Close now old new of e = after_given_up hall desk old new of e
@@ -89,21 +84,18 @@ after_act hall desk due.Renew w now old new of (is, e) =
 after_opened : (hall desk : ℕ) (opened : Bool) (old new : SurveyOf) → IsOf hall desk old
     → Opens opened old new → IsOf hall desk new
 after_opened hall desk true old new of (line, opens, e) =
-    subst (IsOf hall desk) (sym e)
-    (over hall desk old line of
+    subst (IsOf hall desk) (sym e) (over hall desk old line of
     (opens_over (IsQuestion hall desk) true old.line line opens))
 after_opened hall desk false old new of e = after_given_up hall desk old new of e
 
 -- an answer to a question of this desk
 is_answered : (hall desk : ℕ) (told : SurveyAnswer)
-    → IsAnsweredBy (IsQuestion hall desk) (what.Standing told.standing)
-    → IsAnswered hall desk told
+    → IsAnsweredBy (IsQuestion hall desk) (what.Standing told.standing) → IsAnswered hall desk told
 is_answered hall desk told (asked, frame, is, judges) =
     record { asked = asked; frame = frame; asks = is; answers = judges }
 
 after_answer : (hall desk : ℕ) (answer : FrameBody) (c : ReceiveOutcome) (now : ℕ)
-    (old new : SurveyOf)
-    → IsOf hall desk old → IsAnsweredBy (IsQuestion hall desk) answer
+    (old new : SurveyOf) → IsOf hall desk old → IsAnsweredBy (IsQuestion hall desk) answer
     → FollowsAnswer answer c now old new → IsOf hall desk new
 after_answer hall desk (what.Standing standing) c now old new of answered (is, e) =
     subst (IsOf hall desk) (sym e) (record {
@@ -134,15 +126,14 @@ after_call : (hall desk : ℕ) (call : Call) (old new : SurveyOf) → IsOf hall 
 after_call hall desk (Act w now) old new of h =
     after_act hall desk (due_of old.line now) w now old new of h
 after_call hall desk (Opened opened) old new of h = after_opened hall desk opened old new of h
-after_call hall desk Lost old new of h = after_lost hall desk old new of h
+after_call hall desk (Lost ended) old new of h = after_lost hall desk old new of h
 after_call hall desk (Sent count) old new of h =
     subst (IsOf hall desk) (sym h)
     (over hall desk old _ of (sent_over (IsQuestion hall desk) count old.line of.says))
 after_call hall desk (Hear c now piece) old new of h =
     after_heard hall desk h.heard c now piece old h.after new of h.hears
     (over hall desk old h.after of
-    (hears_over (IsQuestion hall desk) h.heard piece old.line h.after of.says h.hears))
-    h.follows
+    (hears_over (IsQuestion hall desk) h.heard piece old.line h.after of.says h.hears)) h.follows
 
 after_calls : (hall desk : ℕ) (calls : List Call) (old new : SurveyOf) → IsOf hall desk old
     → CallsLead DialogueLeads old calls new → IsOf hall desk new

@@ -1,12 +1,11 @@
 -- What a survey tells after calls of any kind, in any order (the project's own).
 use Rattle.std.specs.Prelude.{ℕ, ◌≡◌, ◌⊎◌, List, Some, Ok}
-use Rattle.client.specs.Answers.{judged}
-use Rattle.client.specs.Standings.{status_request, status_request_in_five}
+use Rattle.client.specs.{Answers.judged, Standings.status_request, Standings.status_request_in_five}
 use Rattle.wire.specs.declared.frame.Frame.{Frame}
-use Rattle.wire.specs.declared.frame.FrameBody.TheVariants as what
 use Rattle.desk_talks.specs.Dialogues.{Call, CallsLead}
 use Rattle.desk_survey.specs.Surveys.{DialogueLeads, SurveyOf, new_survey}
 use Rattle.desk_survey.specs.declared.survey.SurveyAnswer.{SurveyAnswer}
+use Rattle.wire.specs.declared.frame.FrameBody.TheVariants as what
 
 -- the desk is asked how it is, in version 3 or in version 5
 abbrev pub AsksHow : (hall desk : ℕ) → Frame → Type 0

@@ -2,26 +2,23 @@
 use Rattle.std.specs.Prelude.{ℕ, ◌≡◌, List, Option, None, Some, Bool, true, false, not, ◌&&◌}
 use Rattle.std.specs.Prelude.{if◌then◌else◌}
 use Rattle.client.specs.Standings.{status_request, status_request_in_five}
-use Rattle.wire.specs.declared.frame.Frame.{Frame}
-use Rattle.wire.specs.declared.frame.FrameBody.{FrameBody}
-use Rattle.wire.specs.declared.frame.FrameBody.TheVariants as what
-use Rattle.desk_talks.specs.Dialogues.{Act, Call, Hear, Lost, Opened, Sent}
+use Rattle.wire.specs.declared.frame.{Frame.Frame, FrameBody.FrameBody}
+use Rattle.desk_talks.specs.{Dialogues.Act, Dialogues.Call, KeptConnections.Opens as OpensLine}
+use Rattle.desk_talks.specs.{Dialogues.Hear, declared.dialogue.ReceiveOutcome.ReceiveOutcome}
+use Rattle.desk_talks.specs.{Dialogues.Lost, declared.dialogue.DialogueAction.DialogueAction}
+use Rattle.desk_talks.specs.{Dialogues.Opened, declared.kept_connection.DueAction.DueAction}
+use Rattle.desk_talks.specs.{Dialogues.Sent, declared.exchange.AnswerOutcome.AnswerOutcome}
 use Rattle.desk_talks.specs.KeptConnections.{AsksOver, HearsOver, KeptConnectionOf, closed, due_of}
-use Rattle.desk_talks.specs.KeptConnections.{new_line, opening}
-use Rattle.desk_talks.specs.KeptConnections.{sent_by as line_sent_by, Opens as OpensLine}
-use Rattle.desk_talks.specs.declared.dialogue.ReceiveOutcome.{ReceiveOutcome}
-use Rattle.desk_talks.specs.declared.dialogue.ReceiveOutcome.TheVariants as came
-use Rattle.desk_talks.specs.declared.dialogue.DialogueAction.{DialogueAction}
-use Rattle.desk_talks.specs.declared.dialogue.DialogueAction.TheVariants as wish
-use Rattle.desk_talks.specs.declared.kept_connection.DueAction.{DueAction}
-use Rattle.desk_talks.specs.declared.kept_connection.DueAction.TheVariants as due
+use Rattle.desk_talks.specs.KeptConnections.{new_line, opening, sent_by as line_sent_by}
 use Rattle.desk_talks.specs.declared.kept_connection.ConnectionStage.{ConnectionStage}
+use Rattle.desk_survey.specs.declared.survey.{Reachability.Reachability, SurveyAnswer.SurveyAnswer}
+use Rattle.wire.specs.declared.frame.FrameBody.TheVariants as what
+use Rattle.desk_talks.specs.declared.dialogue.ReceiveOutcome.TheVariants as came
+use Rattle.desk_talks.specs.declared.dialogue.DialogueAction.TheVariants as wish
+use Rattle.desk_talks.specs.declared.kept_connection.DueAction.TheVariants as due
 use Rattle.desk_talks.specs.declared.kept_connection.ConnectionStage.TheVariants as stage
-use Rattle.desk_talks.specs.declared.exchange.AnswerOutcome.{AnswerOutcome}
 use Rattle.desk_talks.specs.declared.exchange.AnswerOutcome.TheVariants as heard
-use Rattle.desk_survey.specs.declared.survey.Reachability.{Reachability}
 use Rattle.desk_survey.specs.declared.survey.Reachability.TheVariants as contact
-use Rattle.desk_survey.specs.declared.survey.SurveyAnswer.{SurveyAnswer}
 
 -- the number of the hall and of the desk, the connection, what the desk said last, whether it
 -- answers, and whether it is asked as a desk of an earlier program next
@@ -45,7 +42,7 @@ survey hall desk line told contact earlier = record {
 
 -- the desk is asked four times a second, and was not asked yet
 abbrev pub new_survey : ℕ → ℕ → SurveyOf
-new_survey hall desk = survey hall desk (new_line 250) None contact.NotAsked false
+new_survey hall desk = survey hall desk new_line None contact.NotAsked false
 
 -- what the desk said last
 abbrev pub held : SurveyOf → Option SurveyAnswer
@@ -136,8 +133,7 @@ Follows heard.Waits c now old new = (c ≡ came.Nothing) × (new ≡ old)
 Follows (heard.Answer answer) c now old new = FollowsAnswer answer c now old new
 Follows (heard.Refused refusal) c now old new =
     (c ≡ came.Answer false)
-    × (new ≡ survey old.hall old.desk old.line old.told (contact.Refuses refusal)
-    old.earlier)
+    × (new ≡ survey old.hall old.desk old.line old.told (contact.Refuses refusal) old.earlier)
 Follows heard.NoAnswer c now old new = Fails c old new
 
 -- what the bytes come to over the connection, and what follows of it
@@ -152,6 +148,6 @@ pub record HearsDesk (c : ReceiveOutcome) (now : ℕ) (piece : List ℕ)
 abbrev pub DialogueLeads : Call → SurveyOf → SurveyOf → Type 0
 DialogueLeads (Act w now) old new = Acts w now old new
 DialogueLeads (Opened result) old new = Opens result old new
-DialogueLeads Lost old new = new ≡ lost old
+DialogueLeads (Lost ended) old new = new ≡ lost old
 DialogueLeads (Sent count) old new = new ≡ sent_by old count
 DialogueLeads (Hear c now piece) old new = HearsDesk c now piece old new

@@ -8,15 +8,12 @@ ghost use Rattle.wire.specs.Ranges.{IsDesk, IsFrame};
 
 use client::{status_request, status_request_in_five};
 use desk_talks::{
-    AnswerOutcome, ConnectionStage, Dialogue, DialogueAction, DueAction, KeptConnection,
-    ReceiveOutcome,
+    AnswerOutcome, ConnectionPhase, ConnectionStage, Dialogue, DialogueAction, DueAction,
+    KeptConnection, ReceiveOutcome,
 };
 use std::alloc::Global;
 use std::marker::Model;
 use wire::{ClientRefusal, DeskStatus, Frame, FrameBody};
-
-/// How often the desk is asked, in milliseconds.
-const PACE: u64 = 250;
 
 /// Whether a desk answers.
 #[derive(Clone, Copy, PartialEq, Eq, Debug)]
@@ -78,7 +75,7 @@ impl Survey {
         Survey {
             hall,
             desk,
-            line: KeptConnection::new(alloc, PACE),
+            line: KeptConnection::new(alloc),
             told: None,
             contact: Reachability::NotAsked,
             earlier: false,
@@ -174,7 +171,7 @@ impl Survey {
                 ReceiveOutcome::Answer { changed: false }
             }
             _ => {
-                self.lost();
+                self.lost(false);
                 ReceiveOutcome::NoAnswer
             }
         }
@@ -183,7 +180,7 @@ impl Survey {
 
 impl Dialogue for Survey {
     ghost use Rattle.std.specs.Prelude.{◌≡◌};
-    ghost use Rattle.desk_talks.specs.KeptConnections.{is_opening};
+    ghost use Rattle.desk_talks.specs.KeptConnections.{phase_of};
     ghost use Rattle.std.specs.Prelude.{Option};
     ghost use Rattle.desk_survey.specs.Surveys.{DialogueLeads, held};
     ghost use Rattle.desk_survey.specs.declared.survey.SurveyAnswer.{SurveyAnswer as ToldOf};
@@ -195,6 +192,10 @@ impl Dialogue for Survey {
 
     ghost leads = { DialogueLeads };
 
+    ghost phase = { λ s. phase_of s.line.stage };
+
+    ghost output = { λ s. unsent_by s.line.talking };
+
     fn act(&mut self, now: u64) -> DialogueAction {
         match self.line.due(now) {
             DueAction::Rest => DialogueAction::Rest,
@@ -204,7 +205,7 @@ impl Dialogue for Survey {
             }
             DueAction::Ask => self.ask(now),
             DueAction::Close => {
-                self.lost();
+                self.lost(false);
                 DialogueAction::Close
             }
             DueAction::Renew => {
@@ -214,10 +215,8 @@ impl Dialogue for Survey {
         }
     }
 
-    fn is_opening(&self) -> bool
-        ensures { result ≡ is_opening self.now.line.stage }
-    {
-        self.line.is_opening()
+    fn phase(&self) -> ConnectionPhase {
+        self.line.phase()
     }
 
     fn opened(&mut self) -> bool {
@@ -228,7 +227,7 @@ impl Dialogue for Survey {
         opened
     }
 
-    fn lost(&mut self)
+    fn lost(&mut self, _ended: bool)
         ensures { self.new ≡ lost self.old }
     {
         self.earlier = self.is_earlier();
@@ -236,9 +235,7 @@ impl Dialogue for Survey {
         self.contact = Reachability::Silent;
     }
 
-    fn output(&self) -> &[u8]
-        ensures { result.now ≡ unsent_by self.now.line.talking }
-    {
+    fn output(&self) -> &[u8] {
         self.line.output()
     }
 

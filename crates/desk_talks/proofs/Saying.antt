@@ -1,22 +1,16 @@
 -- What is said over a connection stays what may be said, whatever calls are made: where each
 -- question that is asked has a property, so has each that waits, and each whose bytes are written.
-use Rattle.std.proofs.Common.{◌≡◌, ℕ, ◌+◌, List, [], ◌∷◌, Option, None, Some, Result, Ok, Err}
-use Rattle.std.specs.Prelude.{option_map}
-use Rattle.std.proofs.Math.Seq.{drop-nil}
-use Rattle.std.proofs.lemmas.List.{drop-drop}
-use Rattle.std.proofs.Common.{Bool, true, false, inl, inr, ◌⊎◌, refl, sym, subst, ap, ◌∙◌, drop}
-use Rattle.client.specs.Answers.{judged}
-use Rattle.client.specs.declared.fault.ClientFault.{ClientFault}
-use Rattle.client.specs.declared.fault.ClientFault.TheVariants as fault
+use Rattle.std.proofs.Common.{◌≡◌, ℕ, ◌+◌, List, [], ◌∷◌, Option, None, Some, Result, Ok, Err, Bool}
+use Rattle.std.proofs.Common.{true, false, inl, inr, ◌⊎◌, refl, sym, subst, ap, ◌∙◌, drop}
+use Rattle.std.{specs.Prelude.option_map, proofs.Math.Seq.drop-nil, proofs.lemmas.List.drop-drop}
+use Rattle.client.specs.{Answers.judged, declared.fault.ClientFault.ClientFault}
 use Rattle.wire.specs.Spelling.{spelling}
-use Rattle.wire.specs.declared.frame.Frame.{Frame}
-use Rattle.wire.specs.declared.frame.FrameBody.{FrameBody}
+use Rattle.wire.specs.declared.frame.{Frame.Frame, FrameBody.FrameBody}
 use Rattle.desk_talks.specs.KeptConnections.{AsksOver, HearsAt, HearsOver, KeptConnectionOf, Opens}
-use Rattle.desk_talks.specs.KeptConnections.{after_heard}
-use Rattle.desk_talks.specs.KeptConnections.{sent_by}
+use Rattle.desk_talks.specs.KeptConnections.{after_heard, sent_by}
 use Rattle.desk_talks.specs.Exchanges.{Hears, ExchangeOf, asking, heard_of, question_after, said_of}
-use Rattle.desk_talks.specs.Exchanges.{sending}
-use Rattle.desk_talks.specs.declared.exchange.AnswerOutcome.{AnswerOutcome}
+use Rattle.desk_talks.specs.{Exchanges.sending, declared.exchange.AnswerOutcome.AnswerOutcome}
+use Rattle.client.specs.declared.fault.ClientFault.TheVariants as fault
 use Rattle.desk_talks.specs.declared.exchange.AnswerOutcome.TheVariants as heard
 
 abbrev pub Waits : (Frame → Type 0) → Option Frame → Type 0
@@ -101,14 +95,12 @@ answered_in P answer piece t after (inr h) w = absurd (let k = h.heard_is in cc)
 -- ---- over a connection
 
 pub asks_over : (P : Frame → Type 0) (now : ℕ) (question : Frame) (old new : KeptConnectionOf)
-    → P question
-    → AsksOver true now question old new → SaysOver P new.talking
+    → P question → AsksOver true now question old new → SaysOver P new.talking
 asks_over P now question old new p (t, is, e) =
     subst (λ z. SaysOver P z.talking) (sym e) (says_asking P t question p)
 
 pub opens_over : (P : Frame → Type 0) (opened : Bool) (old new : KeptConnectionOf)
-    → Opens opened old new
-    → SaysOver P new.talking
+    → Opens opened old new → SaysOver P new.talking
 opens_over P true old new e =
     subst (λ z. SaysOver P z.talking) (sym e) (record { question = tt; unsent = inl refl })
 opens_over P false old new e = subst (λ z. SaysOver P z.talking) (sym e) tt
@@ -123,16 +115,12 @@ pub sent_over : (P : Frame → Type 0) (count : ℕ) (l : KeptConnectionOf) → 
 sent_over P count l s = sent_at P count l.talking s
 
 after_over : (P : Frame → Type 0) (told : AnswerOutcome) (l : KeptConnectionOf) (t : ExchangeOf)
-    → Says P t
-    → SaysOver P (after_heard told l t).talking
-after_over P heard.Waits l t s = s
-after_over P (heard.Answer answer) l t s = s
-after_over P (heard.Refused refusal) l t s = s
+    → Says P t → SaysOver P (after_heard told l t).talking
 after_over P heard.NoAnswer l t s = tt
+after_over P _ l t s = s
 
 hears_at : (P : Frame → Type 0) (talking : Option ExchangeOf) (told : AnswerOutcome)
-    (piece : List ℕ)
-    (old new : KeptConnectionOf) → SaysOver P talking → SaysOver P old.talking
+    (piece : List ℕ) (old new : KeptConnectionOf) → SaysOver P talking → SaysOver P old.talking
     → HearsAt talking told piece old new → SaysOver P new.talking
 hears_at P None told piece old new s k (is, e) =
     subst (λ z. SaysOver P z.talking) (sym e) k
@@ -146,8 +134,7 @@ pub hears_over : (P : Frame → Type 0) (told : AnswerOutcome) (piece : List ℕ
 hears_over P told piece old new s h = hears_at P old.talking told piece old new s s h
 
 answered_at : (P : Frame → Type 0) (answer : FrameBody) (talking : Option ExchangeOf)
-    (piece : List ℕ)
-    (old new : KeptConnectionOf) → SaysOver P talking
+    (piece : List ℕ) (old new : KeptConnectionOf) → SaysOver P talking
     → HearsAt talking (heard.Answer answer) piece old new → IsAnsweredBy P answer
 answered_at P answer None piece old new s (is, e) = absurd cc
 answered_at P answer (Some t) piece old new s (after, hears, e) =
@@ -156,8 +143,7 @@ answered_at P answer (Some t) piece old new s (after, hears, e) =
 -- what was heard as an answer answers a question that was asked
 pub answered_over : (P : Frame → Type 0) (answer : FrameBody) (piece : List ℕ)
     (old new : KeptConnectionOf)
-    → SaysOver P old.talking → HearsOver (heard.Answer answer) piece old new
-    → IsAnsweredBy P answer
+    → SaysOver P old.talking → HearsOver (heard.Answer answer) piece old new → IsAnsweredBy P answer
 answered_over P answer piece old new s h =
     answered_at P answer old.talking piece old new s h
 

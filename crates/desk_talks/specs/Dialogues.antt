@@ -14,7 +14,7 @@ has_changed came.NoAnswer = false
 pub data Call : Type 0 where
   Act : DialogueAction → (now : ℕ) → Call
   Opened : Bool → Call
-  Lost : Call
+  Lost : (ended : Bool) → Call
   Sent : (count : ℕ) → Call
   Hear : ReceiveOutcome → (now : ℕ) → (piece : List ℕ) → Call
 

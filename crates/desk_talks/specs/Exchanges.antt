@@ -1,14 +1,11 @@
 -- What is said over one connection to a desk (the project's own).
 use Rattle.std.specs.Prelude.{ℕ, ◌≡◌, ◌⊎◌, List, [], ◌∷◌, drop, Option, None, Some, Result, Ok, Err}
-use Rattle.client.specs.Answers.{judged}
-use Rattle.client.specs.declared.fault.ClientFault.{ClientFault}
-use Rattle.client.specs.declared.fault.ClientFault.TheVariants as fault
-use Rattle.wire.specs.declared.fault.WireFault.{WireFault}
-use Rattle.wire.specs.declared.frame.Frame.{Frame}
-use Rattle.wire.specs.declared.frame.FrameBody.{FrameBody}
-use Rattle.wire.specs.Spelling.{spelling}
+use Rattle.client.specs.{Answers.judged, declared.fault.ClientFault.ClientFault}
+use Rattle.wire.specs.{declared.fault.WireFault.WireFault, Spelling.spelling}
+use Rattle.wire.specs.declared.frame.{Frame.Frame, FrameBody.FrameBody}
 use Rattle.wire.specs.Stream.{Fed, Reader, Refuses}
 use Rattle.desk_talks.specs.declared.exchange.AnswerOutcome.{AnswerOutcome}
+use Rattle.client.specs.declared.fault.ClientFault.TheVariants as fault
 use Rattle.desk_talks.specs.declared.exchange.AnswerOutcome.TheVariants as heard
 
 -- the reader of what the desk sends, the question that waits for its answer, and what is still to

@@ -2,8 +2,7 @@
 
 ghost use Rattle.std.specs.Prelude.{◌≡◌, ◌∷◌, [], None, IfOk, OnOk, OnErr};
 ghost use Rattle.client.specs.Answers.{judged};
-ghost use Rattle.wire.specs.Ranges.{IsFrame};
-ghost use Rattle.wire.specs.Stream.{holding};
+ghost use Rattle.wire.specs.{Ranges.IsFrame, Stream.holding};
 ghost use Rattle.desk_talks.specs.Exchanges.{Hears, asking, heard_of, question_after, said_of};
 ghost use Rattle.desk_talks.specs.Exchanges.{sending, talk};
 

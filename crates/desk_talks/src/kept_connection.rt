@@ -1,20 +1,22 @@
 //! A connection to one desk that is kept up, and when the desk may be asked over it.
 
-ghost use Rattle.std.specs.Prelude.{◌≡◌, ◌≤◌, max};
+ghost use Rattle.std.specs.Prelude.{◌≡◌, ◌≤◌};
 ghost use Rattle.wire.specs.Ranges.{IsFrame};
 ghost use Rattle.desk_talks.specs.KeptConnections.{AsksOver, HearsOver, Opens, answered_stage};
-ghost use Rattle.desk_talks.specs.KeptConnections.{closed};
-ghost use Rattle.desk_talks.specs.KeptConnections.{due_at, due_of, hurried, is_free, is_opening};
-ghost use Rattle.desk_talks.specs.KeptConnections.{is_over};
+ghost use Rattle.desk_talks.specs.KeptConnections.{closed, due_at, due_of, hurried, is_closed};
+ghost use Rattle.desk_talks.specs.KeptConnections.{is_free, is_over, phase_of, to_open_at_once};
 ghost use Rattle.desk_talks.specs.KeptConnections.{last_of, left_of, new_line, opened_stage};
-ghost use Rattle.desk_talks.specs.KeptConnections.{opening};
-ghost use Rattle.desk_talks.specs.KeptConnections.{pace_left, sent_by, unsent_by, wait_at, wait_of};
-ghost use Rattle.desk_talks.specs.KeptConnections.{asked_once_more, is_used_up};
+ghost use Rattle.desk_talks.specs.KeptConnections.{opening, pace_left, sent_by, unsent_by, wait_at};
+ghost use Rattle.desk_talks.specs.KeptConnections.{wait_of, asked_once_more, is_used_up};
 
+use crate::dialogue::ConnectionPhase;
 use crate::exchange::{AnswerOutcome, Exchange};
 use std::alloc::Global;
 use std::marker::Model;
 use wire::Frame;
+
+/// The least time from one question to the next, in milliseconds.
+const PACE: u64 = 250;
 
 /// How long a desk may be silent, in milliseconds.
 const PATIENCE: u64 = 2000;
@@ -59,17 +61,16 @@ pub enum DueAction {
 /// A connection to one desk that is kept up: it is opened, the desk is asked one question after the
 /// other over it, and where it is lost, the desk is silent for two seconds, or 64 questions were
 /// answered over it, which is all that a desk answers over one connection, it is opened again.
-/// From one question to the next there is at least the pace, and so there is from a question, or
-/// from an opening, to the next opening. Over a new connection the desk may be asked at once.
+/// From one question to the next there is at least a quarter of a second, and so there is from a
+/// question, or from an opening, to the next opening. Over a new connection the desk may be asked at
+/// once.
 ///
-/// A contract sees the pace in milliseconds, what the connection has come to, the talk over it, if
-/// it is open, and how many questions were asked over it, of which no more than 64 are counted.
-/// Times are milliseconds of a clock that doesn't go back; where it does, more time passes between
-/// questions.
+/// A contract sees what the connection has come to, the talk over it, if it is open, and how many
+/// questions were asked over it, of which no more than 64 are counted. Times are milliseconds of a
+/// clock that doesn't go back; where it does, more time passes between questions.
 #[derive(Drop)]
 pub struct KeptConnection {
     alloc: Global,
-    pace: u64,
     stage: ConnectionStage,
     talk: Option<Exchange>,
     asked: u32,
@@ -80,7 +81,7 @@ impl Model for KeptConnection {
 
     ghost Value = { KeptConnectionOf };
 
-    ghost view = { λ l. line l.pace l.stage l.talk l.asked };
+    ghost view = { λ l. line l.stage l.talk l.asked };
 }
 
 /// Whether this many milliseconds have gone since then.
@@ -98,24 +99,24 @@ fn left_of(now: u64, since: u64, millis: u64) -> u64
     millis.saturating_sub(now.saturating_sub(since))
 }
 
-/// Whether the pace has gone since then.
-fn is_free(last: Option<u64>, pace: u64, now: u64) -> bool
-    ensures { result ≡ is_free last pace now }
+/// Whether a quarter of a second has gone since then.
+fn is_free(last: Option<u64>, now: u64) -> bool
+    ensures { result ≡ is_free last now }
 {
     match last {
         None => true,
-        Some(since) => is_over(now, since, pace),
+        Some(since) => is_over(now, since, PACE),
     }
 }
 
-/// What is left of the pace from then on.
-fn pace_left(last: Option<u64>, pace: u64, now: u64) -> u64
-    ensures left { result ≡ pace_left last pace now }
-    ensures most { result ≤ pace }
+/// What is left of a quarter of a second from then on.
+fn pace_left(last: Option<u64>, now: u64) -> u64
+    ensures left { result ≡ pace_left last now }
+    ensures most { result ≤ 250 }
 {
     match last {
         None => 0,
-        Some(since) => left_of(now, since, pace),
+        Some(since) => left_of(now, since, PACE),
     }
 }
 
@@ -138,29 +139,29 @@ fn asked_once_more(asked: u32) -> u32
 }
 
 /// What is due in this stage, of a connection that is used up or not.
-fn due_at(stage: ConnectionStage, used_up: bool, pace: u64, now: u64) -> DueAction
-    ensures { result ≡ due_at stage used_up pace now }
+fn due_at(stage: ConnectionStage, used_up: bool, now: u64) -> DueAction
+    ensures { result ≡ due_at stage used_up now }
 {
     match stage {
-        ConnectionStage::Closed { last } if is_free(last, pace, now) => DueAction::Open,
+        ConnectionStage::Closed { last } if is_free(last, now) => DueAction::Open,
         ConnectionStage::Opening { since } | ConnectionStage::Asked { since }
             if is_over(now, since, PATIENCE) => { DueAction::Close }
         ConnectionStage::Opened { .. } => DueAction::Ask,
         ConnectionStage::Answered { .. } if used_up => DueAction::Renew,
-        ConnectionStage::Answered { last } if is_free(last, pace, now) => DueAction::Ask,
+        ConnectionStage::Answered { last } if is_free(last, now) => DueAction::Ask,
         _ => DueAction::Rest,
     }
 }
 
 /// How long it is until something is due in this stage, of a connection that is used up or not.
-fn wait_at(stage: ConnectionStage, used_up: bool, pace: u64, now: u64) -> u64
-    ensures wait { result ≡ wait_at stage used_up pace now }
-    ensures most { result ≤ max pace 2000 }
+fn wait_at(stage: ConnectionStage, used_up: bool, now: u64) -> u64
+    ensures wait { result ≡ wait_at stage used_up now }
+    ensures most { result ≤ 2000 }
 {
     match stage {
         ConnectionStage::Answered { .. } if used_up => 0,
         ConnectionStage::Closed { last } | ConnectionStage::Answered { last } => pace_left(
-            last, pace, now,
+            last, now,
         ),
         ConnectionStage::Opening { since } | ConnectionStage::Asked { since } => left_of(
             now, since, PATIENCE,
@@ -169,7 +170,7 @@ fn wait_at(stage: ConnectionStage, used_up: bool, pace: u64, now: u64) -> u64
     }
 }
 
-/// The time from which the pace counts.
+/// The time from which the next question is a quarter of a second away.
 fn last_of(stage: ConnectionStage) -> Option<u64>
     ensures { result ≡ last_of stage }
 {
@@ -202,13 +203,12 @@ fn answered_stage(stage: ConnectionStage) -> ConnectionStage
 }
 
 impl KeptConnection {
-    /// No connection yet. It may be opened at once. The pace is in milliseconds.
-    pub fn new(alloc: Global, pace: u64) -> KeptConnection
-        ensures { result ≡ new_line pace }
+    /// No connection yet. It may be opened at once.
+    pub fn new(alloc: Global) -> KeptConnection
+        ensures { result ≡ new_line }
     {
         KeptConnection {
             alloc,
-            pace,
             stage: ConnectionStage::Closed { last: None },
             talk: None,
             asked: 0,
@@ -226,23 +226,34 @@ impl KeptConnection {
     pub fn due(&self, now: u64) -> DueAction
         ensures { result ≡ due_of self.now now }
     {
-        due_at(self.stage, is_used_up(self.asked), self.pace, now)
+        due_at(self.stage, is_used_up(self.asked), now)
     }
 
     /// In how many milliseconds something is due, if no other call is made: 0 where something is
-    /// due already, and at most the pace or 2,000, whichever is more.
+    /// due already, and at most 2,000.
     pub fn wait(&self, now: u64) -> u64
         ensures wait { result ≡ wait_of self.now now }
-        ensures most { result ≤ max self.now.pace 2000 }
+        ensures most { result ≤ 2000 }
     {
-        wait_at(self.stage, is_used_up(self.asked), self.pace, now)
+        wait_at(self.stage, is_used_up(self.asked), now)
     }
 
-    /// Whether a connection is being opened.
-    pub fn is_opening(&self) -> bool
-        ensures { result ≡ is_opening self.now.stage }
+    /// Whether there is a connection, as its dialogue says it.
+    pub fn phase(&self) -> ConnectionPhase
+        ensures { result ≡ phase_of self.now.stage }
     {
-        matches!(self.stage, ConnectionStage::Opening { .. })
+        match self.stage {
+            ConnectionStage::Closed { .. } => ConnectionPhase::Closed,
+            ConnectionStage::Opening { .. } => ConnectionPhase::Opening,
+            _ => ConnectionPhase::Open,
+        }
+    }
+
+    /// Whether there is no connection, and none is being opened.
+    pub fn is_closed(&self) -> bool
+        ensures { result ≡ is_closed self.now.stage }
+    {
+        matches!(self.stage, ConnectionStage::Closed { .. })
     }
 
     /// Says that a connection is being opened from now on.
@@ -306,6 +317,15 @@ impl KeptConnection {
     {
         if let ConnectionStage::Answered { .. } = self.stage {
             self.stage = ConnectionStage::Answered { last: None };
+        }
+    }
+
+    /// Lets the next connection be opened at once, where there is none.
+    pub fn open_at_once(&mut self)
+        ensures { self.new ≡ to_open_at_once self.old }
+    {
+        if self.is_closed() {
+            self.stage = ConnectionStage::Closed { last: None };
         }
     }
 

@@ -10,6 +10,6 @@ mod dialogue;
 mod exchange;
 mod kept_connection;
 
-pub use dialogue::{Dialogue, DialogueAction, ReceiveOutcome};
+pub use dialogue::{ConnectionPhase, Dialogue, DialogueAction, ReceiveOutcome};
 pub use exchange::{AnswerOutcome, Exchange};
 pub use kept_connection::{ConnectionStage, DueAction, KeptConnection};

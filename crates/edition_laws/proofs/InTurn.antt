@@ -1,13 +1,11 @@
 -- Those who were taken in so far are the first of those who wait.
 use Rattle.std.proofs.Common.{◌≡◌, ◌∙◌, ℕ, zero, suc, ◌+◌, Bool, true, false, cond, List, [], ◌∷◌}
-use Rattle.std.proofs.Common.{◌++◌, take, drop, count_by, slice_get, option_to_list}
-use Rattle.std.proofs.Common.{None, refl, sym, ap, arith, add-one}
+use Rattle.std.proofs.Common.{◌++◌, take, drop, count_by, slice_get, option_to_list, None, refl}
+use Rattle.std.proofs.Common.{sym, ap, arith, add-one}
 use Rattle.std.proofs.lemmas.List.Sums.{sum_by-append, sum_by-cons}
 use Rattle.formats.specs.declared.events.Event.{Event}
-use Rattle.texts.specs.declared.command.Command.{Command}
-use Rattle.texts.specs.declared.command.Command.TheVariants.{Withdraw}
-use Rattle.advancement.specs.Waiting.{next_of}
-use Rattle.advancement.proofs.Turns.{in_turn}
+use Rattle.texts.specs.declared.command.Command.{Command, TheVariants.Withdraw}
+use Rattle.advancement.{specs.Waiting.next_of, proofs.Turns.in_turn}
 use Rattle.commands.specs.Accepted.{is_of, is_withdrawal}
 use Rattle.edition_laws.specs.NextInTurn.{taken_by, taken_in, TakesWhoIsNext}
 
@@ -34,13 +32,11 @@ counted p cs c =
 
 -- whom a command takes in, by whether it is a withdrawal from the round
 taken_once : (e : Event) (r : ℕ) (ns : List ℕ) (earlier : List Command) (c : Command)
-    → taken_by e r ns earlier c
-    ≡ cond (is_withdrawal e r c)
+    → taken_by e r ns earlier c ≡ cond (is_withdrawal e r c)
     (option_to_list (slice_get ns (count_by (is_withdrawal e r) earlier))) []
 taken_once e r ns earlier (Withdraw id n) = step (is_of e r id)
   where
-    step : (b : Bool)
-        → option_to_list
+    step : (b : Bool) → option_to_list
         (cond b (slice_get ns (count_by (is_withdrawal e r) earlier)) None)
         ≡ cond b (option_to_list (slice_get ns (count_by (is_withdrawal e r) earlier))) []
     step true = refl
@@ -76,10 +72,8 @@ taken_are e r ns earlier (c ∷ cs) =
     none_more : behind ≡ 0 + behind
     none_more = omega arith
 
-    step : (b : Bool)
-        → cond b (option_to_list (slice_get ns so_far)) []
-        ++ take behind (drop (so_far + cond b 1 0) ns)
-        ≡ take (cond b 1 0 + behind) (drop so_far ns)
+    step : (b : Bool) → cond b (option_to_list (slice_get ns so_far)) []
+        ++ take behind (drop (so_far + cond b 1 0) ns) ≡ take (cond b 1 0 + behind) (drop so_far ns)
     step true =
         rw (add-one so_far) (one_more ns so_far behind
         ∙ ap (λ (k : ℕ). take k (drop so_far ns)) one_more_is)

@@ -1,12 +1,10 @@
 -- A sheet after its round was opened again and closed.
 use Rattle.std.proofs.Common.{◌≡◌, ◌∙◌, ℕ, suc, List, [], ◌∷◌, ◌++◌, refl, sym, ap, append_assoc}
 use Rattle.formats.specs.declared.events.Event.{Event}
-use Rattle.texts.specs.declared.command.Command.{Command}
+use Rattle.texts.specs.declared.command.{Command.Command, RoundId.RoundId}
 use Rattle.texts.specs.declared.command.Command.TheVariants.{Close, Reopen}
-use Rattle.texts.specs.declared.command.RoundId.{RoundId}
 use Rattle.commands.specs.Accepted.{name_given, name_of, renaming}
-use Rattle.commands.proofs.Lookups.{standing_kept}
-use Rattle.commands.proofs.Mended.{closes_as_before}
+use Rattle.commands.proofs.{Lookups.standing_kept, Mended.closes_as_before}
 use Rattle.sheets.proofs.Alike.{AreNamedAlike, before_of, before_kept, seen_alike, sheets_alike}
 use Rattle.edition_laws.specs.SheetsAsBefore.{PrintsAsBefore}
 

@@ -1,22 +1,27 @@
 -- Lists of texts with what each is answered, and what is printed after them. A worked day is such a
 -- list, written by hand from the rules.
-use Rattle.std.specs.Prelude.{◌≡◌, ℕ, suc, List, [], ◌∷◌, map, length, Option, Some, None}
-use Rattle.formats.specs.declared.events.Event.{Event}
-use Rattle.texts.specs.declared.answer.Answer.{Answer}
-use Rattle.texts.specs.declared.answer.Code.{Code}
+use Rattle.std.specs.Prelude.{◌≡◌, ℕ, suc, List, [], ◌∷◌, ◌++◌, map, length, Option, Some, None}
+use Rattle.std.specs.Prelude.{codes}
+use Rattle.formats.specs.declared.{events.Event.Event, styles.SheetStyle.SheetStyle as Style}
+use Rattle.texts.specs.declared.answer.{Answer.Answer, Code.Code}
 use Rattle.commands.specs.History.{History, nothing, answer_of, answer_to, after, history}
-use Rattle.formats.specs.declared.styles.SheetStyle.{SheetStyle as Style}
 use Rattle.sheets.specs.Sheet.{sheet}
+use Prim.Native.String.{String}
 
 -- a text, and the code of its refusal where it is refused
 abbrev pub Row : Type 0
 Row = List ℕ × Option Code
 
-abbrev pub done : List ℕ → Row
-done text = (text, None)
+abbrev pub done : String → Row
+done text = (codes text, None)
 
-abbrev pub refused : Code → List ℕ → Row
-refused why text = (text, Some why)
+abbrev pub refused : Code → String → Row
+refused why text = (codes text, Some why)
+
+-- what is printed, from its lines
+abbrev pub lines : List String → List ℕ
+lines [] = []
+lines (line ∷ later) = codes line ++ 10 ∷ lines later
 
 -- the texts as entries: their ids count on from a number
 abbrev pub entries : ℕ → List Row → List (ℕ × List ℕ)

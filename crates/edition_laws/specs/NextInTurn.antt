@@ -3,8 +3,7 @@
 use Rattle.std.specs.Prelude.{◌≡◌, ℕ, true, List, [], ◌∷◌, ◌++◌, nat_eq, option_to_list}
 use Rattle.std.specs.List.{IsDistinct}
 use Rattle.formats.specs.declared.events.Event.{Event}
-use Rattle.texts.specs.declared.command.Command.{Command}
-use Rattle.texts.specs.declared.command.Command.TheVariants.{Withdraw}
+use Rattle.texts.specs.declared.command.Command.{Command, TheVariants.Withdraw}
 use Rattle.texts.specs.declared.command.RoundId.{RoundId}
 use Rattle.advancement.specs.Waiting.{next_of}
 use Rattle.commands.specs.Accepted.{entering, is_of}
@@ -27,6 +26,5 @@ taken_in e r waiting earlier (c ∷ cs) =
 abbrev pub TakesWhoIsNext : Type 0
 TakesWhoIsNext =
     (e : Event) (r : ℕ) (id : RoundId) (n : ℕ) (waiting : List ℕ) (since : List Command)
-    → is_of e r id ≡ true → IsDistinct nat_eq waiting
-    → entering e r waiting since (Withdraw id n)
+    → is_of e r id ≡ true → IsDistinct nat_eq waiting → entering e r waiting since (Withdraw id n)
     ≡ next_of waiting (taken_in e r waiting [] since)

@@ -1,11 +1,9 @@
 -- What opening a round again leaves of a sheet (the project's own).
 use Rattle.std.specs.Prelude.{◌≡◌, ℕ, List, [], ◌∷◌, ◌++◌, None}
-use Rattle.formats.specs.declared.events.Event.{Event}
-use Rattle.texts.specs.declared.command.Command.{Command}
+use Rattle.formats.specs.declared.{events.Event.Event, styles.SheetStyle.SheetStyle as Style}
+use Rattle.texts.specs.declared.command.{Command.Command, RoundId.RoundId}
 use Rattle.texts.specs.declared.command.Command.TheVariants.{Close, Reopen}
-use Rattle.texts.specs.declared.command.RoundId.{RoundId}
 use Rattle.commands.specs.Accepted.{refusal}
-use Rattle.formats.specs.declared.styles.SheetStyle.{SheetStyle as Style}
 use Rattle.sheets.specs.Sheet.{sheet}
 
 -- a round that may be opened again, and is closed with nothing between, has the sheet that it had,

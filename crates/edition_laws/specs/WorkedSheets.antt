@@ -2,25 +2,21 @@
 -- these lists.
 use Rattle.std.specs.Prelude.{◌≡◌, ℕ, List, [], ◌∷◌, ◌++◌, codes, Option, Some, None}
 use Rattle.cube.specs.declared.moves.Side.TheVariants.{U, R}
-use Rattle.cube.specs.declared.moves.Kind.TheVariants.{Face}
-use Rattle.cube.specs.declared.moves.Move.{Move}
+use Rattle.cube.specs.declared.moves.{Kind.TheVariants.Face, Move.Move}
 use Rattle.cube.specs.declared.moves.Quarter.TheVariants.{Clockwise, Anticlockwise}
-use Rattle.attempts.specs.declared.Value.TheVariants as value
-use Rattle.formats.specs.declared.advance.Advance.{Advance}
-use Rattle.formats.specs.declared.advance.Advance.TheVariants.{Final, Top}
-use Rattle.formats.specs.declared.events.Event.{Event}
+use Rattle.formats.specs.declared.advance.Advance.{Advance, TheVariants.Final, TheVariants.Top}
+use Rattle.formats.specs.declared.events.{Event.Event, Format.Format}
 use Rattle.formats.specs.declared.events.Event.TheVariants.{Cube3, FewestMoves, MultiBlind}
-use Rattle.formats.specs.declared.events.Format.{Format}
 use Rattle.formats.specs.declared.events.Format.TheVariants.{Ao5, Mo3, Bo1, Bo3}
 use Rattle.texts.specs.Fields.{attempt_entry, card_entry, move_by, round_id}
-use Rattle.texts.specs.declared.command.Command.{Command}
+use Rattle.texts.specs.declared.command.{Command.Command, Entered.Entered, Settings.Settings}
 use Rattle.texts.specs.declared.command.Command.TheVariants.{Register, Open, Enter, Scramble}
 use Rattle.texts.specs.declared.command.Command.TheVariants.{Attempt, Close, SetEdition, Fix}
-use Rattle.texts.specs.declared.command.Entered.{Entered}
-use Rattle.texts.specs.declared.command.Entered.TheVariants as entered
-use Rattle.texts.specs.declared.command.Settings.{Settings}
-use Rattle.formats.specs.declared.styles.SheetStyle.TheVariants as style
 use Rattle.sheets.specs.Sheet.{sheet}
+use Rattle.edition_laws.specs.Answered.{lines}
+use Rattle.attempts.specs.declared.Value.TheVariants as value
+use Rattle.texts.specs.declared.command.Entered.TheVariants as entered
+use Rattle.formats.specs.declared.styles.SheetStyle.TheVariants as style
 
 abbrev pub settings_of : Format → Option (ℕ × ℕ) → Option ℕ → Advance → Settings
 settings_of form cutoff limit advance =
@@ -38,26 +34,22 @@ time hundredths = entered.Time hundredths 0
 abbrev pub open_round : List Command
 open_round =
     Register 1 (codes "Ann Li") ∷ Register 2 (codes "Bo Ek")
-    ∷ Open (round_id Cube3 1) (settings_of Ao5 None (Some 60000) Final)
-    ∷ Enter Cube3 1 ∷ Enter Cube3 2
-    ∷ did Cube3 1 1 (time 1000) ∷ did Cube3 2 1 (time 1200) ∷ did Cube3 3 1 (time 1100)
-    ∷ did Cube3 4 1 (time 1300) ∷ did Cube3 5 1 entered.Dnf
+    ∷ Open (round_id Cube3 1) (settings_of Ao5 None (Some 60000) Final) ∷ Enter Cube3 1
+    ∷ Enter Cube3 2 ∷ did Cube3 1 1 (time 1000) ∷ did Cube3 2 1 (time 1200)
+    ∷ did Cube3 3 1 (time 1100) ∷ did Cube3 4 1 (time 1300) ∷ did Cube3 5 1 entered.Dnf
     ∷ did Cube3 1 2 (entered.Time 950 1) ∷ []
 
 abbrev pub open_text : List ℕ
 open_text =
-    codes "333 round 1 ao5 open position 11\n"
-    ++ codes "cutoff - limit 60000 advance final\n"
-    ++ codes "  1     12.00     10.00     10.00     12.00     11.00     13.00       DNF"
-    ++ codes "    1 - Ann Li\n"
-    ++ codes "  2         -     11.50     11.50         -         -         -         -"
-    ++ codes "    2 - Bo Ek\n"
+    lines ("333 round 1 ao5 open position 11" ∷ "cutoff - limit 60000 advance final"
+    ∷ "  1     12.00     10.00     10.00     12.00     11.00     13.00       DNF    1 - Ann Li"
+    ∷ "  2         -     11.50     11.50         -         -         -         -    2 - Bo Ek" ∷ [])
 
 abbrev pub open_table : List ℕ
 open_table =
-    codes "place,number,name,average,best,1,2,3,4,5,advances\n"
-    ++ codes "1,1,Ann Li,12.00,10.00,10.00,12.00,11.00,13.00,DNF,no\n"
-    ++ codes "2,2,Bo Ek,-,11.50,11.50,-,-,-,-,no\n"
+    lines ("place,number,name,average,best,1,2,3,4,5,advances"
+    ∷ "1,1,Ann Li,12.00,10.00,10.00,12.00,11.00,13.00,DNF,no"
+    ∷ "2,2,Bo Ek,-,11.50,11.50,-,-,-,-,no" ∷ [])
 
 -- A round that is closed: 3 does not meet the cutoff, 1 and 4 are tied over the border of two
 -- places, so that 2 alone advances. A meet lets a round of fewer than eight be closed only as a
@@ -67,29 +59,26 @@ closed_round =
     Register 1 (codes "Ann Li") ∷ Register 2 (codes "Smith, John")
     ∷ Register 3 (codes "Pat \"Slow\" Roy") ∷ Register 4 (codes "Bo Ek")
     ∷ Open (round_id Cube3 1) (settings_of Bo3 (Some (1, 2000)) (Some 60000) (Top 2))
-    ∷ Enter Cube3 1 ∷ Enter Cube3 2 ∷ Enter Cube3 3 ∷ Enter Cube3 4
-    ∷ did Cube3 1 1 (time 1000) ∷ did Cube3 2 1 (time 1100) ∷ did Cube3 3 1 (time 1200)
-    ∷ did Cube3 1 2 (time 905) ∷ did Cube3 2 2 (time 6000) ∷ did Cube3 3 2 entered.Dnf
-    ∷ did Cube3 1 3 (time 2000)
+    ∷ Enter Cube3 1 ∷ Enter Cube3 2 ∷ Enter Cube3 3 ∷ Enter Cube3 4 ∷ did Cube3 1 1 (time 1000)
+    ∷ did Cube3 2 1 (time 1100) ∷ did Cube3 3 1 (time 1200) ∷ did Cube3 1 2 (time 905)
+    ∷ did Cube3 2 2 (time 6000) ∷ did Cube3 3 2 entered.Dnf ∷ did Cube3 1 3 (time 2000)
     ∷ did Cube3 1 4 (time 1200) ∷ did Cube3 2 4 (time 1000) ∷ did Cube3 3 4 (time 1500)
     ∷ Close (round_id Cube3 1) ∷ []
 
 abbrev pub closed_text : List ℕ
 closed_text =
-    codes "333 round 1 bo3 closed position 20\n"
-    ++ codes "cutoff 1:2000 limit 60000 advance top:2\n"
-    ++ codes "  1         -      9.05      9.05   1:00.00       DNF    2 Q Smith, John\n"
-    ++ codes "  2         -     10.00     10.00     11.00     12.00    1 - Ann Li\n"
-    ++ codes "  2         -     10.00     12.00     10.00     15.00    4 - Bo Ek\n"
-    ++ codes "  4         -     20.00     20.00         -         -    3 - Pat \"Slow\" Roy\n"
+    lines ("333 round 1 bo3 closed position 20" ∷ "cutoff 1:2000 limit 60000 advance top:2"
+    ∷ "  1         -      9.05      9.05   1:00.00       DNF    2 Q Smith, John"
+    ∷ "  2         -     10.00     10.00     11.00     12.00    1 - Ann Li"
+    ∷ "  2         -     10.00     12.00     10.00     15.00    4 - Bo Ek"
+    ∷ "  4         -     20.00     20.00         -         -    3 - Pat \"Slow\" Roy" ∷ [])
 
 abbrev pub closed_table : List ℕ
 closed_table =
-    codes "place,number,name,average,best,1,2,3,advances\n"
-    ++ codes "1,2,\"Smith, John\",-,9.05,9.05,1:00.00,DNF,yes\n"
-    ++ codes "2,1,Ann Li,-,10.00,10.00,11.00,12.00,no\n"
-    ++ codes "2,4,Bo Ek,-,10.00,12.00,10.00,15.00,no\n"
-    ++ codes "4,3,\"Pat \"\"Slow\"\" Roy\",-,20.00,20.00,-,-,no\n"
+    lines ("place,number,name,average,best,1,2,3,advances"
+    ∷ "1,2,\"Smith, John\",-,9.05,9.05,1:00.00,DNF,yes" ∷ "2,1,Ann Li,-,10.00,10.00,11.00,12.00,no"
+    ∷ "2,4,Bo Ek,-,10.00,12.00,10.00,15.00,no"
+    ∷ "4,3,\"Pat \"\"Slow\"\" Roy\",-,20.00,20.00,-,-,no" ∷ [])
 
 -- the first time of 2 was wrong
 abbrev pub fix : Command
@@ -103,35 +92,31 @@ fixed_round = closed_round ++ fix ∷ []
 
 abbrev pub fixed_text : List ℕ
 fixed_text =
-    codes "333 round 1 bo3 closed position 21\n"
-    ++ codes "cutoff 1:2000 limit 60000 advance top:2\n"
-    ++ codes "  1         -     10.00     10.00     11.00     12.00    1 Q Ann Li\n"
-    ++ codes "  1         -     10.00     12.00     10.00     15.00    4 Q Bo Ek\n"
-    ++ codes "  3         -     19.99     19.99   1:00.00       DNF    2 - Smith, John\n"
-    ++ codes "  4         -     20.00     20.00         -         -    3 - Pat \"Slow\" Roy\n"
+    lines ("333 round 1 bo3 closed position 21" ∷ "cutoff 1:2000 limit 60000 advance top:2"
+    ∷ "  1         -     10.00     10.00     11.00     12.00    1 Q Ann Li"
+    ∷ "  1         -     10.00     12.00     10.00     15.00    4 Q Bo Ek"
+    ∷ "  3         -     19.99     19.99   1:00.00       DNF    2 - Smith, John"
+    ∷ "  4         -     20.00     20.00         -         -    3 - Pat \"Slow\" Roy" ∷ [])
 
 -- once the next round is opened, places follow and marks do not
 abbrev pub fixed_late : List Command
 fixed_late =
-    closed_round
-    ++ Open (round_id Cube3 2) (settings_of Bo3 None (Some 60000) Final) ∷ fix ∷ []
+    closed_round ++ Open (round_id Cube3 2) (settings_of Bo3 None (Some 60000) Final) ∷ fix ∷ []
 
 abbrev pub late_text : List ℕ
 late_text =
-    codes "333 round 1 bo3 closed position 22\n"
-    ++ codes "cutoff 1:2000 limit 60000 advance top:2\n"
-    ++ codes "  1         -     10.00     10.00     11.00     12.00    1 - Ann Li\n"
-    ++ codes "  1         -     10.00     12.00     10.00     15.00    4 - Bo Ek\n"
-    ++ codes "  3         -     19.99     19.99   1:00.00       DNF    2 Q Smith, John\n"
-    ++ codes "  4         -     20.00     20.00         -         -    3 - Pat \"Slow\" Roy\n"
+    lines ("333 round 1 bo3 closed position 22" ∷ "cutoff 1:2000 limit 60000 advance top:2"
+    ∷ "  1         -     10.00     10.00     11.00     12.00    1 - Ann Li"
+    ∷ "  1         -     10.00     12.00     10.00     15.00    4 - Bo Ek"
+    ∷ "  3         -     19.99     19.99   1:00.00       DNF    2 Q Smith, John"
+    ∷ "  4         -     20.00     20.00         -         -    3 - Pat \"Slow\" Roy" ∷ [])
 
 abbrev pub late_table : List ℕ
 late_table =
-    codes "place,number,name,average,best,1,2,3,advances\n"
-    ++ codes "1,1,Ann Li,-,10.00,10.00,11.00,12.00,no\n"
-    ++ codes "1,4,Bo Ek,-,10.00,12.00,10.00,15.00,no\n"
-    ++ codes "3,2,\"Smith, John\",-,19.99,19.99,1:00.00,DNF,yes\n"
-    ++ codes "4,3,\"Pat \"\"Slow\"\" Roy\",-,20.00,20.00,-,-,no\n"
+    lines ("place,number,name,average,best,1,2,3,advances"
+    ∷ "1,1,Ann Li,-,10.00,10.00,11.00,12.00,no" ∷ "1,4,Bo Ek,-,10.00,12.00,10.00,15.00,no"
+    ∷ "3,2,\"Smith, John\",-,19.99,19.99,1:00.00,DNF,yes"
+    ∷ "4,3,\"Pat \"\"Slow\"\" Roy\",-,20.00,20.00,-,-,no" ∷ [])
 
 -- fewest moves: solutions of one, two and two moves
 abbrev pub quarter_right : List Move
@@ -145,9 +130,8 @@ back_again = move_by (Face U) Anticlockwise ∷ move_by (Face R) Anticlockwise �
 
 abbrev pub moves_round : List Command
 moves_round =
-    Register 1 (codes "Ann Li")
-    ∷ Open (round_id FewestMoves 1) (settings_of Mo3 None None Final) ∷ Enter FewestMoves 1
-    ∷ Scramble (round_id FewestMoves 1) 1 quarter_right
+    Register 1 (codes "Ann Li") ∷ Open (round_id FewestMoves 1) (settings_of Mo3 None None Final)
+    ∷ Enter FewestMoves 1 ∷ Scramble (round_id FewestMoves 1) 1 quarter_right
     ∷ Scramble (round_id FewestMoves 1) 2 right_and_up
     ∷ Scramble (round_id FewestMoves 1) 3 right_and_up
     ∷ did FewestMoves 1 1 (entered.Solution (move_by (Face R) Anticlockwise ∷ []))
@@ -156,36 +140,31 @@ moves_round =
 
 abbrev pub moves_sheet : List ℕ
 moves_sheet =
-    codes "333fm round 1 mo3 open position 9\n"
-    ++ codes "cutoff - limit - advance final\n"
-    ++ codes "  1      1.67         1         1         2         2    1 - Ann Li\n"
+    lines ("333fm round 1 mo3 open position 9" ∷ "cutoff - limit - advance final"
+    ∷ "  1      1.67         1         1         2         2    1 - Ann Li" ∷ [])
 
 -- multi-blind, of edition 2: nine of nine, and two of five, which is a DNF
 abbrev pub multi_round : List Command
 multi_round =
     SetEdition 2 ∷ Register 1 (codes "Ann Li") ∷ Register 2 (codes "Bo Ek")
-    ∷ Open (round_id MultiBlind 1) (settings_of Bo1 None None Final)
-    ∷ Enter MultiBlind 1 ∷ Enter MultiBlind 2
-    ∷ did MultiBlind 1 1 (entered.Multi 9 9 3499) ∷ did MultiBlind 1 2 (entered.Multi 2 5 600)
-    ∷ []
+    ∷ Open (round_id MultiBlind 1) (settings_of Bo1 None None Final) ∷ Enter MultiBlind 1
+    ∷ Enter MultiBlind 2 ∷ did MultiBlind 1 1 (entered.Multi 9 9 3499)
+    ∷ did MultiBlind 1 2 (entered.Multi 2 5 600) ∷ []
 
 abbrev pub multi_text : List ℕ
 multi_text =
-    codes "333mbf round 1 bo1 open position 8\n"
-    ++ codes "cutoff - limit - advance final\n"
-    ++ codes "  1           -   9/9 58:19   9/9 58:19    1 - Ann Li\n"
-    ++ codes "  2           -         DNF         DNF    2 - Bo Ek\n"
+    lines ("333mbf round 1 bo1 open position 8" ∷ "cutoff - limit - advance final"
+    ∷ "  1           -   9/9 58:19   9/9 58:19    1 - Ann Li"
+    ∷ "  2           -         DNF         DNF    2 - Bo Ek" ∷ [])
 
 abbrev pub multi_table : List ℕ
 multi_table =
-    codes "place,number,name,average,best,1,advances\n"
-    ++ codes "1,1,Ann Li,-,9/9 58:19,9/9 58:19,no\n"
-    ++ codes "2,2,Bo Ek,-,DNF,DNF,no\n"
+    lines ("place,number,name,average,best,1,advances" ∷ "1,1,Ann Li,-,9/9 58:19,9/9 58:19,no"
+    ∷ "2,2,Bo Ek,-,DNF,DNF,no" ∷ [])
 
 abbrev pub moves_table : List ℕ
 moves_table =
-    codes "place,number,name,average,best,1,2,3,advances\n"
-    ++ codes "1,1,Ann Li,1.67,1,1,2,2,no\n"
+    lines ("place,number,name,average,best,1,2,3,advances" ∷ "1,1,Ann Li,1.67,1,1,2,2,no" ∷ [])
 
 pub record PrintsWorkedSheets : Type 0 where
   pub open_as_text : sheet style.Text open_round Cube3 1 11 ≡ Some open_text

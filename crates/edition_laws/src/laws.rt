@@ -1,15 +1,13 @@
 //! The laws.
 
-ghost use Rattle.edition_laws.specs.NextInTurn.{TakesWhoIsNext};
-ghost use Rattle.edition_laws.specs.SheetsAsBefore.{PrintsAsBefore};
-ghost use Rattle.edition_laws.specs.WorkedAnswers.{AnswersWorkedDays};
-ghost use Rattle.edition_laws.specs.WorkedDays.{MendsWorkedDays};
-ghost use Rattle.edition_laws.specs.WorkedMending.{MendsWorkedRounds};
-ghost use Rattle.edition_laws.specs.WorkedRounds.{WorksRounds};
+ghost use Rattle.edition_laws.specs.{NextInTurn.TakesWhoIsNext, SheetsAsBefore.PrintsAsBefore};
+ghost use Rattle.edition_laws.specs.{WorkedAnswers.AnswersWorkedDays, WorkedDays.MendsWorkedDays};
+ghost use Rattle.edition_laws.specs.{WorkedMending.MendsWorkedRounds, WorkedRounds.WorksRounds};
 ghost use Rattle.edition_laws.specs.WorkedSheets.{PrintsWorkedSheets};
 
 /// A law: a round that is opened again, and then closed with nothing between, has the sheet of
 /// before, in both forms, and so has each other round.
+#[tactic(auto, using(crate::proofs::Printed::sheets_as_before))]
 pub fn sheets_as_before()
     ensures { PrintsAsBefore }
 {}

@@ -3,18 +3,16 @@
 -- specification.md): a time is in hundredths of a second, a result of fewest moves in moves, and
 -- their mean in hundredths of a move; -1 is DNF, -2 is DNS, and 0 says that there is no result.
 use Rattle.std.specs.Prelude.{◌≡◌, ℕ, false, List, [], ◌∷◌, ◌++◌, map, codes, Some, None}
-use Rattle.json.specs.Print.{print}
-use Rattle.json.specs.Tree.{json_tokens}
-use Rattle.attempts.specs.declared.Fm.TheVariants as fm
-use Rattle.attempts.specs.declared.Outcome.{Outcome}
+use Rattle.json.specs.{Print.print, Tree.json_tokens}
+use Rattle.attempts.specs.declared.{Outcome.Outcome, Unit.Unit as Measure}
 use Rattle.attempts.specs.declared.Outcome.TheVariants.{Time, Solution, Multi, Dnf, Dns}
-use Rattle.attempts.specs.declared.Unit.{Unit as Measure}
-use Rattle.attempts.specs.declared.Unit.TheVariants as measure
 use Rattle.attempts.specs.Attempts.{value_of}
 use Rattle.formats.specs.declared.events.Format.{Format}
 use Rattle.formats.specs.declared.events.Format.TheVariants.{Ao5, Mo3, Bo2}
 use Rattle.rounds.specs.Tables.{Entrant, Table}
 use Rattle.wcif_results.specs.Results.{results_json}
+use Rattle.attempts.specs.declared.Fm.TheVariants as fm
+use Rattle.attempts.specs.declared.Unit.TheVariants as measure
 
 -- an entrant with these outcomes, under a limit of ten minutes
 abbrev pub entrant_with : ℕ → List Outcome → Entrant
@@ -44,11 +42,8 @@ solved_in moves = Solution (fm.Moves moves)
 -- no attempt. Those without an average are ranked by their best.
 abbrev pub times : Table
 times =
-    round_of Ao5 measure.Time
-    (entrant_with 5 []
-    ∷ entrant_with 3 (Dns ∷ Dns ∷ Dns ∷ Dns ∷ Dns ∷ [])
-    ∷ entrant_with 12 (Dnf ∷ Dns ∷ Dns ∷ Dns ∷ Dns ∷ [])
-    ∷ entrant_with 9 (Time 900 0 ∷ [])
+    round_of Ao5 measure.Time (entrant_with 5 [] ∷ entrant_with 3 (Dns ∷ Dns ∷ Dns ∷ Dns ∷ Dns ∷ [])
+    ∷ entrant_with 12 (Dnf ∷ Dns ∷ Dns ∷ Dns ∷ Dns ∷ []) ∷ entrant_with 9 (Time 900 0 ∷ [])
     ∷ entrant_with 2 (Dnf ∷ Dns ∷ Time 1500 0 ∷ Time 60000 0 ∷ Time 1400 0 ∷ [])
     ∷ entrant_with 7 (Time 1043 0 ∷ Time 999 0 ∷ Dnf ∷ Time 1101 1 ∷ Time 1234 0 ∷ []) ∷ [])
 
@@ -93,8 +88,7 @@ times_text =
 -- Fewest moves, the mean of three: a third of 25, 26 and 26 moves is 25.67.
 abbrev pub moves : Table
 moves =
-    round_of Mo3 measure.Moves
-    (entrant_with 1 (solved_in 25 ∷ solved_in 26 ∷ solved_in 26 ∷ [])
+    round_of Mo3 measure.Moves (entrant_with 1 (solved_in 25 ∷ solved_in 26 ∷ solved_in 26 ∷ [])
     ∷ entrant_with 2 (solved_in 30 ∷ Dnf ∷ solved_in 24 ∷ [])
     ∷ entrant_with 3 (solved_in 20 ∷ []) ∷ [])
 
@@ -121,8 +115,7 @@ moves_text =
 -- and 00. One cube of two is a DNF.
 abbrev pub multi : Table
 multi =
-    round_of Bo2 measure.Multi
-    (entrant_with 1 (Multi 7 9 3000 ∷ Multi 1 2 600 ∷ [])
+    round_of Bo2 measure.Multi (entrant_with 1 (Multi 7 9 3000 ∷ Multi 1 2 600 ∷ [])
     ∷ entrant_with 2 (Multi 10 10 3599 ∷ Dns ∷ []) ∷ [])
 
 abbrev pub multi_text : List ℕ

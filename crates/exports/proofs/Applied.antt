@@ -1,19 +1,16 @@
 -- A log from line to line, and how that ends, in words on the whole input.
-use Rattle.std.proofs.Common.{◌≡◌, ℕ, ◌+◌, List, [], ◌∷◌, ◌++◌, length, fold}
-use Rattle.std.proofs.Common.{Option, None, refl, sym, ap, ◌∙◌}
-use Rattle.std.proofs.Common.{length-append, add_comm, arith, subst}
+use Rattle.std.proofs.Common.{◌≡◌, ℕ, ◌+◌, List, [], ◌∷◌, ◌++◌, length, fold, Option, refl, sym, ap}
+use Rattle.std.proofs.Common.{◌∙◌, length-append, add_comm, arith, subst}
 use Rattle.std.specs.List.{enumerate_from}
 use Rattle.commands.specs.History.{History, nothing, history, after}
-use Rattle.lines.specs.Lines.{lines_of}
-use Rattle.lines.specs.Reading.{Reading, HasGiven, GivesLine, GivesNone, GivesFault}
-use Rattle.lines.specs.declared.fault.RunFault.{RunFault}
-use Rattle.lines.specs.declared.fault.RunFault.TheVariants as run
-use Rattle.lines.proofs.Inputs.{has_all, left_is, left_of, lines_above}
+use Rattle.lines.specs.{Lines.lines_of, declared.fault.RunFault.RunFault}
+use Rattle.lines.specs.Reading.{Reading, HasGiven, GivesLine, GivesFault}
+use Rattle.lines.proofs.Inputs.{left_is, left_of, lines_above}
 use Rattle.replay.specs.Replay.{entries}
-use Rattle.exports.specs.Logs.{fault_of_run}
-use Rattle.exports.specs.declared.logs.LogFault.{LogFault}
+use Rattle.exports.specs.{Logs.fault_of_run, declared.logs.LogFault.LogFault}
+use Rattle.exports.specs.model.Applying.{AppliesNotAll}
+use Rattle.lines.specs.declared.fault.RunFault.TheVariants as run
 use Rattle.exports.specs.declared.logs.LogFault.TheVariants as log
-use Rattle.exports.specs.model.Applying.{AppliesAll, AppliesNotAll}
 
 abbrev pub histories : History → List (ℕ × List ℕ) → History
 histories h es = fold (λ h entry. after h entry.0 entry.1) h es
@@ -22,8 +19,7 @@ enumerate_append : (n : ℕ) (xs ys : List (List ℕ))
     → enumerate_from n (xs ++ ys) ≡ enumerate_from n xs ++ enumerate_from (n + length xs) ys
 enumerate_append n [] ys = ap (λ m. enumerate_from m ys) (omega arith)
 enumerate_append n (x ∷ xs) ys =
-    ap (λ es. (n, x) ∷ es)
-    (enumerate_append (n + 1) xs ys
+    ap (λ es. (n, x) ∷ es) (enumerate_append (n + 1) xs ys
     ∙ ap (λ m. enumerate_from (n + 1) xs ++ enumerate_from m ys) (omega arith))
 
 histories_append : (h : History) (es fs : List (ℕ × List ℕ))
@@ -32,12 +28,10 @@ histories_append h [] fs = refl
 histories_append h (e ∷ es) fs = histories_append (after h e.0 e.1) es fs
 
 -- one more line
-history_more : (lines : List (List ℕ)) (line : List ℕ)
-    → history (entries (lines ++ line ∷ []))
+history_more : (lines : List (List ℕ)) (line : List ℕ) → history (entries (lines ++ line ∷ []))
     ≡ after (history (entries lines)) (length lines + 1) line
 history_more lines line =
-    ap history
-    (enumerate_append 1 lines (line ∷ [])
+    ap history (enumerate_append 1 lines (line ∷ [])
     ∙ ap (λ n. entries lines ++ (n, line) ∷ []) (add_comm 1 (length lines)))
     ∙ histories_append nothing (entries lines) ((length lines + 1, line) ∷ [])
 
@@ -57,20 +51,9 @@ one_more p q meet meet' line given start before now a g after_it =
     record {
       read = g.read;
       meet_is =
-          after_it
-          ∙ ap (λ h. after h q.lines line) a.meet_is
-          ∙ ap (λ n. after (history (entries (lines_of given))) n line) count
-          ∙ sym (history_more (lines_of given) line)
+          after_it ∙ rw (a.meet_is, count) (sym (history_more (lines_of given) line))
           ∙ ap (λ lines. history (entries lines)) (sym g.is);
     }
-
--- all lines were applied
-pub applies : (p : Reading) (meet : History) (given : List ℕ) (start before now : Option (List ℕ))
-    (q : Reading) (line : List ℕ)
-    → Applied p meet given start before → GivesNone q given start now → AppliesAll meet start
-applies p meet given start before now q line a g =
-    let all = has_all q given start now g.read g.over in
-    (given, all.0, record { within = g.read.within; is = a.meet_is })
 
 -- memory ran out
 pub starved : (start : Option (List ℕ)) (e : LogFault) → e ≡ log.NoMemory → AppliesNotAll start e
@@ -84,6 +67,4 @@ stops run.InputTooLong given start now f =
     let above = lines_above given f.0 start now f.1 in (above.0, above.1, above.2)
 stops run.Read given start now f = (left_of start, left_is start, tt)
 stops run.NoMemory given start now f = (left_of start, left_is start, tt)
-stops run.Write given start now f = absurd f
-stops run.BadCount given start now f = absurd f
-stops (run.BadLine n) given start now f = absurd f
+stops _ given start now f = absurd f

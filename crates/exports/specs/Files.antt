@@ -5,8 +5,7 @@ use Rattle.commands.specs.History.{History}
 use Rattle.lines.specs.Bytes.{AppendsPart, HasLeft}
 use Rattle.texts.specs.declared.command.Command.{Command}
 use Rattle.wcif_results.specs.Files.{ExportFails, Exports, HasNotes}
-use Rattle.wcif_results.specs.Notes.{any_runs}
-use Rattle.wcif_results.specs.declared.note.ExportNote.{ExportNote}
+use Rattle.wcif_results.specs.{Notes.any_runs, declared.note.ExportNote.ExportNote}
 use Rattle.wcif_results.specs.declared.exporting.ExportFault.{ExportFault}
 use Rattle.exports.specs.Logs.{LogFails, ReadsMeet, opens_any}
 use Rattle.exports.specs.declared.fault.ExportsFault.{ExportsFault}
@@ -27,13 +26,11 @@ StillRuns running cs bytes notes =
 
 -- why there is none
 abbrev pub IsUnfilled : (running : Bool) → List Command → (bytes : List ℕ) → ExportsFault → Type 0
-IsUnfilled running cs bytes fault.ReadFile = ⊥
-IsUnfilled running cs bytes (fault.Log f) = ⊥
 IsUnfilled running cs bytes fault.NoRound = opens_any cs ≡ false
 IsUnfilled running cs bytes (fault.File f) = (opens_any cs ≡ true) × ExportFails cs bytes f
 IsUnfilled running cs bytes (fault.Running notes) = StillRuns running cs bytes notes.items
-IsUnfilled running cs bytes fault.Write = ⊥
 IsUnfilled running cs bytes fault.NoMemory = Unit {0}
+IsUnfilled running cs bytes _ = ⊥
 
 -- the line of the bytes that the one reader has and of the meet that the other has
 abbrev pub MakesLine : Bool → (file log : Option (List ℕ)) → (line : List ℕ) → List ExportNote

@@ -1,21 +1,17 @@
 -- A desk's log as a meet: its lines are parted and limited as those of a replay (the project's
 -- own).
 use Rattle.std.specs.Prelude.{◌≡◌, ℕ, ◌-◌, Bool, true, false, ◌==◌, List, length, slice_get}
-use Rattle.std.specs.Prelude.{is_some, Option, None, Some}
-use Rattle.std.specs.List.{list_any}
-use Rattle.commands.specs.Accepted.{round_of}
-use Rattle.commands.specs.History.{History, history}
+use Rattle.std.specs.{Prelude.is_some, Prelude.Option, Prelude.None, Prelude.Some, List.list_any}
+use Rattle.commands.specs.{Accepted.round_of, History.History, History.history}
 use Rattle.formats.specs.Events.{all_events}
 use Rattle.exports.specs.imports.Printing.{IsFront}
-use Rattle.exports.specs.declared.imports.reading.InputFault.{InputFault}
-use Rattle.exports.specs.declared.imports.reading.InputFault.TheVariants as read
-use Rattle.lines.specs.Bytes.{HasLeft}
+use Rattle.exports.specs.declared.{imports.reading.InputFault.InputFault, logs.LogFault.LogFault}
+use Rattle.lines.specs.{Bytes.HasLeft, declared.fault.RunFault.RunFault}
 use Rattle.lines.specs.Lines.{is_within, lines_of}
-use Rattle.lines.specs.declared.fault.RunFault.{RunFault}
-use Rattle.lines.specs.declared.fault.RunFault.TheVariants as run
 use Rattle.replay.specs.Replay.{entries}
 use Rattle.texts.specs.declared.command.Command.{Command}
-use Rattle.exports.specs.declared.logs.LogFault.{LogFault}
+use Rattle.exports.specs.declared.imports.reading.InputFault.TheVariants as read
+use Rattle.lines.specs.declared.fault.RunFault.TheVariants as run
 use Rattle.exports.specs.declared.logs.LogFault.TheVariants as log
 
 abbrev pub is_line_feed : Option ℕ → Bool

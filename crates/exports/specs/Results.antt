@@ -3,11 +3,9 @@ use Rattle.std.specs.Prelude.{◌≡◌, ℕ, List, [], ◌∷◌, ◌++◌, Opt
 use Rattle.std.specs.Io.KnownBytes.{Appends, Keeps}
 use Rattle.commands.specs.History.{History}
 use Rattle.lines.specs.Bytes.{AppendsPart}
-use Rattle.wcif_results.specs.results_json.Meets.{meet_json}
+use Rattle.wcif_results.specs.{results_json.Meets.meet_json, Files.IsTextOf}
 use Rattle.texts.specs.declared.command.Command.{Command}
-use Rattle.wcif_results.specs.Files.{IsTextOf}
-use Rattle.exports.specs.Logs.{LogFails, ReadsMeet}
-use Rattle.exports.specs.declared.fault.ResultsFault.{ResultsFault}
+use Rattle.exports.specs.{Logs.LogFails, Logs.ReadsMeet, declared.fault.ResultsFault.ResultsFault}
 use Rattle.exports.specs.declared.fault.ResultsFault.TheVariants as fault
 
 -- the JSON of the results of a meet, and a line feed

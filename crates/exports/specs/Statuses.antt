@@ -3,12 +3,11 @@
 -- own).
 use Rattle.std.specs.Prelude.{ℕ, ◌==◌, if◌then◌else◌, List, length}
 use Rattle.wcif_results.specs.declared.note.ExportNote.{ExportNote}
-use Rattle.wcif_results.specs.declared.exporting.ExportFault.TheVariants as file
-use Rattle.exports.specs.declared.fault.ExportsFault.{ExportsFault}
-use Rattle.exports.specs.declared.fault.ExportsFault.TheVariants as exports
-use Rattle.exports.specs.declared.fault.ResultsFault.{ResultsFault}
-use Rattle.exports.specs.declared.fault.ResultsFault.TheVariants as results
+use Rattle.exports.specs.declared.fault.{ExportsFault.ExportsFault, ResultsFault.ResultsFault}
 use Rattle.exports.specs.declared.logs.LogFault.{LogFault}
+use Rattle.wcif_results.specs.declared.exporting.ExportFault.TheVariants as file
+use Rattle.exports.specs.declared.fault.ExportsFault.TheVariants as exports
+use Rattle.exports.specs.declared.fault.ResultsFault.TheVariants as results
 use Rattle.exports.specs.declared.logs.LogFault.TheVariants as log
 
 abbrev pub log_status : LogFault → ℕ

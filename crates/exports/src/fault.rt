@@ -2,8 +2,7 @@
 
 ghost use Rattle.std.specs.Prelude.{◌≡◌};
 ghost use Rattle.std.specs.Io.KnownBytes.{Keeps};
-ghost use Rattle.exports.specs.Statuses.{export_status, log_status, notes_status};
-ghost use Rattle.exports.specs.Statuses.{results_status};
+ghost use Rattle.exports.specs.Statuses.{export_status, log_status, notes_status, results_status};
 
 use crate::logs::LogFault;
 use std::alloc::AllocError;

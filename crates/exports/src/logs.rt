@@ -2,10 +2,9 @@
 
 ghost use Rattle.std.specs.Prelude.{◌≡◌, IfErr, IfOk, OnOk};
 ghost use Rattle.commands.specs.History.{after, nothing};
-ghost use Rattle.exports.specs.Logs.{IsMeetOf, IsNoMeet, LogFails, ReadsMeet};
-ghost use Rattle.exports.specs.Logs.{is_whole, opens_any};
-ghost use Rattle.exports.specs.declared.logs.LogFault.TheVariants as log_fault;
+ghost use Rattle.exports.specs.Logs.{IsMeetOf, IsNoMeet, LogFails, ReadsMeet, is_whole, opens_any};
 ghost use Rattle.exports.specs.model.Applying.{AppliesAll, AppliesNotAll};
+ghost use Rattle.exports.specs.declared.logs.LogFault.TheVariants as log_fault;
 
 use crate::imports::{InputFault, read_bytes};
 use commands::Meet;

@@ -1,23 +1,19 @@
 -- What is made of the answers of the system and of a desk (the project's own).
-use Rattle.std.specs.Prelude.{◌==◌, ◌&&◌, ◌||◌, if◌then◌else◌, nat_le, bytes_eq, ℕ, Bool}
-use Rattle.std.specs.Prelude.{List, [], ◌∷◌, ◌++◌, codes, length, Option, Some, None}
-use Rattle.std.specs.List.{list_all}
-use Rattle.std.specs.declared.io.ErrorKind.{ErrorKind}
-use Rattle.std.specs.declared.io.ErrorKind.TheVariants as kind
+use Rattle.std.specs.Prelude.{◌==◌, ◌&&◌, ◌||◌, if◌then◌else◌, nat_le, bytes_eq, ℕ, Bool, List, []}
+use Rattle.std.specs.Prelude.{◌∷◌, ◌++◌, codes, length, Option, Some, None}
+use Rattle.std.specs.{List.list_all, declared.io.ErrorKind.ErrorKind}
 use Rattle.desk_requests.specs.declared.fault.DeskFault.{DeskFault}
+use Rattle.wire.specs.declared.frame.{Frame.Frame, FrameBody.FrameBody}
+use Rattle.fault_hints.specs.declared.findings.{AddressFinding.AddressFinding, Finding.Finding}
+use Rattle.fault_hints.specs.declared.findings.{FileFinding.FileFinding, KeyFinding.KeyFinding}
+use Rattle.std.specs.declared.io.ErrorKind.TheVariants as kind
 use Rattle.desk_requests.specs.declared.fault.DeskFault.TheVariants as fault
 use Rattle.keys.specs.declared.key_file.fault.KeyFileFault.TheVariants as key_file
-use Rattle.wire.specs.declared.frame.Frame.{Frame}
-use Rattle.wire.specs.declared.frame.FrameBody.{FrameBody}
 use Rattle.wire.specs.declared.frame.FrameBody.TheVariants as what
 use Rattle.wire.specs.declared.values.ClientRefusal.TheVariants as refusal
-use Rattle.fault_hints.specs.declared.findings.AddressFinding.{AddressFinding}
 use Rattle.fault_hints.specs.declared.findings.AddressFinding.TheVariants as address
-use Rattle.fault_hints.specs.declared.findings.FileFinding.{FileFinding}
 use Rattle.fault_hints.specs.declared.findings.FileFinding.TheVariants as file
-use Rattle.fault_hints.specs.declared.findings.KeyFinding.{KeyFinding}
 use Rattle.fault_hints.specs.declared.findings.KeyFinding.TheVariants as key
-use Rattle.fault_hints.specs.declared.findings.Finding.{Finding}
 use Rattle.fault_hints.specs.declared.findings.Finding.TheVariants as finding
 
 -- a file that cannot be opened, read or written
@@ -76,23 +72,19 @@ is_of_text b = nat_le 32 b || b == 9 || b == 10 || b == 13
 -- these
 abbrev pub of_beginning : List ℕ → Option FileFinding
 of_beginning bytes =
-    if bytes_eq bytes database_header then None
-    else if length bytes == 0 then Some file.Empty
-    else if list_all is_of_text bytes then Some file.Text
-    else Some file.NoDatabase
+    if bytes_eq bytes database_header then None else if length bytes == 0 then Some file.Empty
+    else if list_all is_of_text bytes then Some file.Text else Some file.NoDatabase
 
 -- the desk that sent a frame, where it is not the one that was asked
 abbrev pub other_desk : Frame → ℕ → ℕ → Option Finding
 other_desk given hall desk =
-    if given.hall == hall && given.from == desk then None
-    else Some (finding.Other (record {
+    if given.hall == hall && given.from == desk then None else Some (finding.Other (record {
       met = record { hall = given.hall; desk = given.from };
       asked = record { hall = hall; desk = desk };
     }))
 
 abbrev pub length_of : FrameBody → Option Finding
-length_of (what.Standing standing) =
-    Some (finding.Length (record { commands = standing.length }))
+length_of (what.Standing standing) = Some (finding.Length (record { commands = standing.length }))
 length_of _ = None
 
 -- how many commands the desk has that says how it is

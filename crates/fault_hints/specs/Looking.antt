@@ -1,27 +1,22 @@
 -- What is looked at again after a fault, what may be met there, and the line that says it (the
 -- project's own).
 use Rattle.std.specs.Prelude.{◌≡◌, ◌⊎◌, ◌≤◌, ◌++◌, ℕ, List, Option, Some, None, IfSome, codes}
-use Rattle.std.specs.Prelude.{option_map}
-use Rattle.std.specs.Borrow.{Bor}
-use Rattle.std.specs.Io.KnownBytes.{Appends, Keeps}
+use Rattle.std.specs.{Prelude.option_map, Borrow.Bor, Io.KnownBytes.Appends, Io.KnownBytes.Keeps}
 use Rattle.batch.specs.declared.dialing.Contact.{Contact}
 use Rattle.desk_requests.specs.declared.fault.DeskFault.{DeskFault}
-use Rattle.desk_requests.specs.declared.fault.DeskFault.TheVariants as fault
 use Rattle.hall_file.specs.Addresses.{IsAddress}
 use Rattle.lines.specs.Bytes.{AppendsPart}
 use Rattle.wire.specs.declared.frame.Frame.{Frame}
-use Rattle.wire.specs.declared.values.ClientRefusal.TheVariants as refusal
-use Rattle.fault_hints.specs.declared.findings.AddressFinding.{AddressFinding}
-use Rattle.fault_hints.specs.declared.findings.AddressFinding.TheVariants as address
-use Rattle.fault_hints.specs.declared.findings.FileFinding.{FileFinding}
-use Rattle.fault_hints.specs.declared.findings.FileFinding.TheVariants as file
-use Rattle.fault_hints.specs.declared.findings.Finding.{Finding}
-use Rattle.fault_hints.specs.declared.findings.Finding.TheVariants as finding
-use Rattle.fault_hints.specs.declared.findings.KeyFinding.{KeyFinding}
-use Rattle.fault_hints.specs.declared.matters.FaultSubject.{FaultSubject}
-use Rattle.fault_hints.specs.declared.matters.FaultSubject.TheVariants as about
+use Rattle.fault_hints.specs.declared.findings.{AddressFinding.AddressFinding, Finding.Finding}
+use Rattle.fault_hints.specs.declared.findings.{FileFinding.FileFinding, KeyFinding.KeyFinding}
+use Rattle.fault_hints.specs.{declared.matters.FaultSubject.FaultSubject, Sentences.finding_text}
 use Rattle.fault_hints.specs.Judged.{length_in, of_key, other_desk}
-use Rattle.fault_hints.specs.Sentences.{finding_text}
+use Rattle.desk_requests.specs.declared.fault.DeskFault.TheVariants as fault
+use Rattle.wire.specs.declared.values.ClientRefusal.TheVariants as refusal
+use Rattle.fault_hints.specs.declared.findings.AddressFinding.TheVariants as address
+use Rattle.fault_hints.specs.declared.findings.FileFinding.TheVariants as file
+use Rattle.fault_hints.specs.declared.findings.Finding.TheVariants as finding
+use Rattle.fault_hints.specs.declared.matters.FaultSubject.TheVariants as about
 
 -- ---- files
 
@@ -112,8 +107,7 @@ IsOfAddress text May found =
 -- number from 1 to 5
 abbrev pub IsHeard : ℕ → (Frame → Option Finding) → Option Finding → Type 0
 IsHeard desk told_by found =
-    (found ≡ None)
-    ⊎ ((given : Frame) × (1 ≤ desk) × (desk ≤ 5) × (found ≡ told_by given))
+    (found ≡ None) ⊎ ((given : Frame) × (1 ≤ desk) × (desk ≤ 5) × (found ≡ told_by given))
 
 -- ---- what a fault is about
 
@@ -135,8 +129,7 @@ IsOfAsking fault.CannotConnect hall desk contact found =
     IsOfAddress contact.address IsOfConnecting found
 IsOfAsking (fault.Refused refusal.Foreign) hall desk contact found =
     IsHeard desk (λ given. other_desk given hall desk) found
-IsOfAsking (fault.Refused refusal.NotThere) hall desk contact found =
-    IsHeard desk length_in found
+IsOfAsking (fault.Refused refusal.NotThere) hall desk contact found = IsHeard desk length_in found
 IsOfAsking (fault.Refused refusal.HallDiffers) hall desk contact found =
     found ≡ Some finding.Differs
 IsOfAsking _ hall desk contact found = found ≡ None

@@ -1,15 +1,12 @@
 -- The lines that say what was met (the project's own).
 use Rattle.std.specs.Prelude.{◌++◌, ℕ, List, codes, decimal}
-use Rattle.fault_hints.specs.declared.findings.AddressFinding.{AddressFinding}
-use Rattle.fault_hints.specs.declared.findings.AddressFinding.TheVariants as address
-use Rattle.fault_hints.specs.declared.findings.CommandCount.{CommandCount}
-use Rattle.fault_hints.specs.declared.findings.DeskName.{DeskName}
-use Rattle.fault_hints.specs.declared.findings.FileFinding.{FileFinding}
-use Rattle.fault_hints.specs.declared.findings.FileFinding.TheVariants as file
-use Rattle.fault_hints.specs.declared.findings.KeyFinding.{KeyFinding}
-use Rattle.fault_hints.specs.declared.findings.KeyFinding.TheVariants as key
-use Rattle.fault_hints.specs.declared.findings.OtherDesk.{OtherDesk}
+use Rattle.fault_hints.specs.declared.findings.{AddressFinding.AddressFinding, DeskName.DeskName}
+use Rattle.fault_hints.specs.declared.findings.{CommandCount.CommandCount, FileFinding.FileFinding}
+use Rattle.fault_hints.specs.declared.findings.{KeyFinding.KeyFinding, OtherDesk.OtherDesk}
 use Rattle.fault_hints.specs.declared.findings.Finding.{Finding}
+use Rattle.fault_hints.specs.declared.findings.AddressFinding.TheVariants as address
+use Rattle.fault_hints.specs.declared.findings.FileFinding.TheVariants as file
+use Rattle.fault_hints.specs.declared.findings.KeyFinding.TheVariants as key
 use Rattle.fault_hints.specs.declared.findings.Finding.TheVariants as finding
 
 -- what is said of a desk's file, after its path

@@ -2,8 +2,7 @@
 
 ghost use Rattle.std.specs.Prelude.{IfErr, IfOk};
 ghost use Rattle.hall_file.specs.Addresses.{IsAddress};
-ghost use Rattle.fault_hints.specs.Looking.{IsMetAt, IsMissed, IsOfConnecting};
-ghost use Rattle.fault_hints.specs.Looking.{IsOfListening};
+ghost use Rattle.fault_hints.specs.Looking.{IsMetAt, IsMissed, IsOfConnecting, IsOfListening};
 
 use crate::findings::AddressFinding;
 use crate::told::{of_connecting, of_listening};

@@ -1,6 +1,6 @@
 //! What is looked at again, for each fault.
 
-ghost use Rattle.std.specs.Prelude.{◌≡◌, ◌≤◌, if◌then◌else◌, option_map};
+ghost use Rattle.std.specs.Prelude.{◌≡◌, if◌then◌else◌, option_map};
 ghost use Rattle.fault_hints.specs.Judged.{length_in, other_desk};
 ghost use Rattle.fault_hints.specs.Looking.{IsFound, IsHeard, IsOfAsking, IsOfLog, IsOfServing};
 ghost use Rattle.fault_hints.specs.declared.findings.Finding.TheVariants as finding;

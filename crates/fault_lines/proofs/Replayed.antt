@@ -1,7 +1,6 @@
 -- How a replay ended, by its status.
 use Rattle.std.proofs.Common.{◌≡◌, ℕ, List, inl, inr, OnOk, IfErr, Option, Result, Ok, Err, Bool}
-use Rattle.std.proofs.Common.{true, false}
-use Rattle.std.proofs.KnownBytes.{Appends-kept}
+use Rattle.std.proofs.{Common.true, Common.false, KnownBytes.Appends-kept}
 use Rattle.std.specs.Io.KnownBytes.{Keeps}
 use Rattle.fault_lines.specs.Statuses.{EndsBy, EndsTask, status_of_replay}
 use Rattle.lines.specs.Bytes.{HasLeft, Sides}
@@ -12,8 +11,7 @@ use Rattle.replay_arguments.specs.declared.replay.ReplayTask.{ReplayTask}
 
 -- what is said where the sheet alone was asked for, or not, is said of the task
 asked_so : (task : ReplayTask) (alone : Bool) (status : ℕ) (s : Sides) (t : Told)
-    → task.only_sheet ≡ alone
-    → ((input : List ℕ) × HasLeft s.had input
+    → task.only_sheet ≡ alone → ((input : List ℕ) × HasLeft s.had input
     × EndsBy alone status (run_of task.style task.event task.round input s) t)
     → EndsTask task status s t
 asked_so task alone status s t is ends = rw is ends
@@ -33,8 +31,7 @@ ends_whole (Err e) task status s t is all part zero told quiet =
 pub ends_apart : {T : Type 0} (ran : Result T ReplayFault) (task : ReplayTask) (status : ℕ)
     (s : Sides) (old mid new : Option (List ℕ)) → task.only_sheet ≡ true
     → OnOk ran (ReplaysAllApart task.style task.event task.round s
-    (record { before = old; now = mid }))
-    → IfErr ran
+    (record { before = old; now = mid })) → IfErr ran
     (ReplaysPartApart task.style task.event task.round s (record { before = old; now = mid }))
     → OnOk ran (status ≡ 0) → IfErr ran (λ e. status ≡ status_of_replay e)
     → (status ≡ 0 → Keeps mid new) → EndsTask task status s (record { before = old; now = new })

@@ -13,12 +13,10 @@ use Rattle.replay_arguments.specs.declared.replay.ReplayTask.{ReplayTask}
 
 -- the status of a fault of a run over lines: 3 for a named refusal, 4 for a device, 5 for memory
 abbrev pub status_of_run : RunFault → ℕ
-status_of_run run.BadCount = 3
-status_of_run run.InputTooLong = 3
-status_of_run (run.BadLine line) = 3
 status_of_run run.Read = 4
 status_of_run run.Write = 4
 status_of_run run.NoMemory = 5
+status_of_run _ = 3
 
 -- the status of a fault of a replay
 abbrev pub status_of_replay : ReplayFault → ℕ
@@ -35,8 +33,7 @@ EndsReplay status r =
 -- line was told after such refused lines as it left
 abbrev pub EndsApart : ℕ → Run → Told → Type 0
 EndsApart status r t =
-    ((status ≡ 0) × ReplaysApart r t)
-    ⊎ ((e : ReplayFault) × (status ≡ status_of_replay e)
+    ((status ≡ 0) × ReplaysApart r t) ⊎ ((e : ReplayFault) × (status ≡ status_of_replay e)
     × (mid : Option (List ℕ)) × FailsApart e r (record { before = t.before; now = mid }))
 
 -- the sheet alone was asked for, or not; then nothing is told but a fault
@@ -55,5 +52,4 @@ EndsTask task status s t =
 abbrev pub RunsNothing : ℕ → Option (List ℕ) → Option (List ℕ) → Type 0
 RunsNothing status old new =
     ((status ≡ 2) × (text : List ℕ) × Appends old new text)
-    ⊎ ((status ≡ 4) × (text : List ℕ) × AppendsPart old new text)
-    ⊎ ((status ≡ 5) × Keeps old new)
+    ⊎ ((status ≡ 4) × (text : List ℕ) × AppendsPart old new text) ⊎ ((status ≡ 5) × Keeps old new)

@@ -1,17 +1,15 @@
 -- An arrangement is solved exactly where each sticker has the colour of the one in the middle of
 -- its side.
-use Rattle.std.proofs.Common.{◌≡◌, ℕ, List, [], ◌∷◌, get_or, true, refl, sym, ap, ◌∙◌, Some}
-use Rattle.std.proofs.Common.{eqb-true, eq-eqb}
-use Rattle.std.specs.List.{All, list_all, slice_get}
+use Rattle.std.proofs.Common.{◌≡◌, ℕ, List, [], ◌∷◌, get_or, true, refl, sym, ap, ◌∙◌, Some, eq-eqb}
+use Rattle.std.{proofs.Common.eqb-true, specs.List.All, specs.List.list_all, specs.List.slice_get}
 use Rattle.std.proofs.lemmas.List.Sums.{AllPass-from_list_all, list_all-from_AllPass}
 use Rattle.std.proofs.lemmas.Option.{slice_get_within, get_or_from_slice_get}
-use Rattle.cube.specs.declared.moves.Side.{Side}
+use Rattle.cube.specs.declared.moves.{Side.Side, Colour.Colour}
 use Rattle.cube.specs.declared.moves.Side.TheVariants.{U, R, F, D, L, B}
-use Rattle.cube.specs.declared.moves.Colour.{Colour}
-use Rattle.cube.specs.declared.moves.Colour.TheVariants as colours
 use Rattle.cube.specs.Stickers.{Sticker, StandsOn, IsSticker, outward, stickers, number, side_of}
 use Rattle.cube.specs.Turns.{colour_at, code, IsSolved}
 use Rattle.fmc_check.specs.Fewest.{centre, is_as_its_centre, is_solved, TestsSolved}
+use Rattle.cube.specs.declared.moves.Colour.TheVariants as colours
 
 -- the colour of a number
 coloured : ℕ → Colour
@@ -21,30 +19,18 @@ coloured n =
 coloured-code : (c : Colour) → coloured (code c) ≡ c
 unfolding coloured
 coloured-code colours.U = refl
-coloured-code colours.R = refl
-coloured-code colours.F = refl
-coloured-code colours.D = refl
-coloured-code colours.L = refl
-coloured-code colours.B = refl
+coloured-code _ = refl
 
 one_colour : (a b : Colour) → code a ≡ code b → a ≡ b
 one_colour a b e = sym (coloured-code a) ∙ ap coloured e ∙ coloured-code b
 
 centre_stands : (side : Side) → StandsOn side (centre side)
 centre_stands U = record { points = refl; touches = refl }
-centre_stands R = record { points = refl; touches = refl }
-centre_stands F = record { points = refl; touches = refl }
-centre_stands D = record { points = refl; touches = refl }
-centre_stands L = record { points = refl; touches = refl }
-centre_stands B = record { points = refl; touches = refl }
+centre_stands _ = record { points = refl; touches = refl }
 
 side_of-outward : (side : Side) → side_of (outward side) ≡ side
 side_of-outward U = refl
-side_of-outward R = refl
-side_of-outward F = refl
-side_of-outward D = refl
-side_of-outward L = refl
-side_of-outward B = refl
+side_of-outward _ = refl
 
 -- the sticker in the middle of a sticker's side faces as it does
 centre_faces : (s : Sticker) → IsSticker s → s.normal ≡ (centre (side_of s.normal)).normal

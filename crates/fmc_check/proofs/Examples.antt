@@ -1,12 +1,9 @@
 -- Results computed from the definition.
 use Rattle.std.proofs.Common.{◌≡◌, [], ◌∷◌, refl}
 use Rattle.cube.specs.declared.moves.Side.TheVariants.{R, F, L}
-use Rattle.cube.specs.declared.moves.Axis.TheVariants.{Y}
-use Rattle.cube.specs.declared.moves.Kind.{Kind}
+use Rattle.cube.specs.declared.moves.{Axis.TheVariants.Y, Kind.Kind, Quarter.Quarter, Move.Move}
 use Rattle.cube.specs.declared.moves.Kind.TheVariants.{Face, Block, Turn}
-use Rattle.cube.specs.declared.moves.Quarter.{Quarter}
 use Rattle.cube.specs.declared.moves.Quarter.TheVariants.{Clockwise, Half, Anticlockwise}
-use Rattle.cube.specs.declared.moves.Move.{Move}
 use Rattle.cube.specs.Turns.{turned}
 use Rattle.attempts.specs.declared.Fm.TheVariants.{Moves, Dnf}
 use Rattle.fmc_check.specs.Fewest.{is_solved, is_solution, result_of}

@@ -3,14 +3,10 @@
 use Rattle.std.proofs.Common.{◌≡◌, ◌≤◌, ◌↔◌, List, [], ◌∷◌, ◌++◌, length, Bool, true, false, ◌&&◌}
 use Rattle.std.proofs.Common.{IsTrue, refl, sym, subst, ap, ◌∙◌}
 use Rattle.std.specs.Prelude.{nat_le, if◌then◌else◌}
-use Rattle.std.proofs.lemmas.Bool.{leb-true, le-leb}
-use Rattle.std.specs.Cmp.Derive.{both_true}
-use Rattle.cube.specs.declared.moves.Colour.{Colour}
-use Rattle.cube.specs.declared.moves.Move.{Move}
-use Rattle.cube.specs.Turns.{after, first_arrangement, IsSolved}
-use Rattle.cube.specs.notation.Notation.{turn_count}
-use Rattle.attempts.specs.declared.Fm.{Fm}
-use Rattle.attempts.specs.declared.Fm.TheVariants.{Moves, Dnf}
+use Rattle.std.{proofs.lemmas.Bool.leb-true, proofs.lemmas.Bool.le-leb, specs.Cmp.Derive.both_true}
+use Rattle.cube.specs.{declared.moves.Colour.Colour, declared.moves.Move.Move, Turns.IsSolved}
+use Rattle.cube.specs.{Turns.after, Turns.first_arrangement, notation.Notation.turn_count}
+use Rattle.attempts.specs.declared.Fm.{Fm, TheVariants.Moves, TheVariants.Dnf}
 use Rattle.fmc_check.specs.Fewest.{final, Solves, is_solved, is_solution, result_of, TestsSolved}
 use Rattle.fmc_check.specs.Fewest.{TestsSolution}
 

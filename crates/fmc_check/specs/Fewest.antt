@@ -1,15 +1,11 @@
 -- What a solution of fewest moves counts (WCA Regulations, article E).
 use Rattle.std.specs.Prelude.{◌==◌, ◌&&◌, ◌≤◌, ◌↔◌, ◌++◌, Bool, nat_le, if◌then◌else◌, IsTrue, List}
-use Rattle.std.specs.Prelude.{length}
-use Rattle.std.specs.List.{list_all}
-use Rattle.cube.specs.declared.moves.Side.{Side}
-use Rattle.cube.specs.declared.moves.Colour.{Colour}
-use Rattle.cube.specs.declared.moves.Move.{Move}
+use Rattle.std.specs.{Prelude.length, List.list_all}
+use Rattle.cube.specs.declared.moves.{Side.Side, Colour.Colour, Move.Move}
 use Rattle.cube.specs.Stickers.{Zero, Sticker, sticker_on, stickers, side_of}
 use Rattle.cube.specs.Turns.{after, first_arrangement, colour_at, code, IsSolved}
 use Rattle.cube.specs.notation.Notation.{turn_count}
-use Rattle.attempts.specs.declared.Fm.{Fm}
-use Rattle.attempts.specs.declared.Fm.TheVariants.{Moves, Dnf}
+use Rattle.attempts.specs.declared.Fm.{Fm, TheVariants.Moves, TheVariants.Dnf}
 
 -- the arrangement after the scramble and then the solution, from the first one
 abbrev pub final : List Move → List Move → List Colour

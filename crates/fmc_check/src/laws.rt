@@ -1,8 +1,7 @@
 //! Laws of the definitions: the tests that they compute by are what they say of stickers.
 
 ghost use Rattle.std.specs.Prelude.{List};
-ghost use Rattle.cube.specs.declared.moves.Colour.{Colour};
-ghost use Rattle.cube.specs.declared.moves.Move.{Move};
+ghost use Rattle.cube.specs.declared.moves.{Colour.Colour, Move.Move};
 ghost use Rattle.fmc_check.specs.Fewest.{TestsSolved, TestsSolution};
 
 use cube::fifty_four_stickers;

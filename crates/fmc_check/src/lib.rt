@@ -2,8 +2,7 @@
 #![tactic(auto)]
 
 ghost use Rattle.std.specs.Prelude.{◌≡◌, ◌≤◌, ◌↔◌, IsTrue, length};
-ghost use Rattle.cube.specs.Turns.{after};
-ghost use Rattle.cube.specs.notation.Notation.{turn_count};
+ghost use Rattle.cube.specs.{Turns.after, notation.Notation.turn_count};
 ghost use Rattle.attempts.specs.Attempts.{IsResult};
 ghost use Rattle.fmc_check.specs.Fewest.{Solves, result_of};
 

@@ -1,19 +1,16 @@
 -- Bytes that begin with a word, at a place.
-use Rattle.std.proofs.Common.{◌≡◌, refl, sym, ℕ, zero, suc, ◌<◌, Bool, true, false, List, []}
-use Rattle.std.proofs.Common.{◌∷◌, length}
+use Rattle.std.proofs.Common.{◌≡◌, refl, sym, ℕ, zero, suc, ◌<◌, Bool, true, false, List, [], ◌∷◌}
+use Rattle.std.proofs.Common.{length, drop, Some, arith}
 use Rattle.std.specs.Prelude.{◌==◌, ◌&&◌}
 use Rattle.std.specs.Char.{to_ascii_lowercase}
-use Rattle.std.proofs.Common.{drop, Some, arith}
-use Rattle.form_data.specs.Cutting.{begins_as, line_of}
-use Rattle.form_data.specs.Headers.{field_after}
+use Rattle.form_data.specs.{Cutting.begins_as, Cutting.line_of, Headers.field_after}
 
 both-false : (x : Bool) → (x && false) ≡ false
 both-false true = refl
 both-false false = refl
 
 -- bytes that are shorter than a word do not begin with it
-pub too_short : (word bytes : List ℕ) → length bytes < length word
-    → false ≡ begins_as word bytes
+pub too_short : (word bytes : List ℕ) → length bytes < length word → false ≡ begins_as word bytes
 too_short [] bytes short = absurd (omega arith)
 too_short (c ∷ word) [] short = refl
 too_short (c ∷ word) (b ∷ bytes) short =

@@ -1,11 +1,9 @@
 -- What a browser writes of a form reads back.
-use Rattle.std.proofs.Common.{◌≡◌, refl, sym, ap, subst, ◌∙◌, ℕ, zero, suc, ◌≤◌, true, false}
-use Rattle.std.proofs.Common.{List, [], ◌∷◌, ◌++◌, length, map, Option, None, Some, arith}
+use Rattle.std.proofs.Common.{◌≡◌, refl, sym, ap, subst, ◌∙◌, ℕ, zero, suc, ◌≤◌, true, false, List}
+use Rattle.std.proofs.Common.{[], ◌∷◌, ◌++◌, length, map, Option, None, Some, arith}
 use Rattle.std.specs.Prelude.{◌==◌, ◌&&◌, not, codes}
-use Rattle.std.specs.List.{AllByRecursion, list_all}
-use Rattle.std.specs.Option.{option_map, option_and_then}
-use Rattle.std.proofs.lemmas.Bool.{eqb-true}
-use Rattle.std.proofs.lemmas.List.{append-nil, append_assoc}
+use Rattle.std.specs.{List.AllByRecursion, List.list_all, Option.option_map, Option.option_and_then}
+use Rattle.std.proofs.lemmas.{Bool.eqb-true, List.append-nil, List.append_assoc}
 use Rattle.form_data.specs.Bodies.{Found, after_first, closes, delimiter, next_part, part_of}
 use Rattle.form_data.specs.Bodies.{parts_after, with_name, with_part}
 use Rattle.form_data.specs.Cutting.{crlf, cut, line_of}
@@ -38,8 +36,7 @@ byte_plain b h = elim (13 == b) as (λ t. (13 == b) ≡ t → not t ≡ true) [
   | false ↦ λ e. refl
 ] refl
 
-bytes_plain : (bytes : List ℕ) → list_all is_boundary_byte bytes ≡ true
-    → is_without 13 bytes ≡ true
+bytes_plain : (bytes : List ℕ) → list_all is_boundary_byte bytes ≡ true → is_without 13 bytes ≡ true
 bytes_plain [] h = refl
 bytes_plain (b ∷ bytes) h =
     let here : not (13 == b) ≡ true =
@@ -48,8 +45,7 @@ bytes_plain (b ∷ bytes) h =
     bytes_plain bytes (both_second (is_boundary_byte b) (list_all is_boundary_byte bytes) h) in
     rw (here, rest) refl
 
-boundary_plain : (boundary : List ℕ) → is_boundary boundary ≡ true
-    → is_without 13 boundary ≡ true
+boundary_plain : (boundary : List ℕ) → is_boundary boundary ≡ true → is_without 13 boundary ≡ true
 boundary_plain boundary h =
     bytes_plain boundary
     (both_second (has_boundary_length boundary) (list_all is_boundary_byte boundary)
@@ -113,8 +109,7 @@ type_none boundary content (Some file) h none =
 inner_none : (boundary : List ℕ) (part : Written) → CanWrite boundary part
     → cut (delimiter boundary) (inner part) ≡ None
 inner_none boundary part can =
-    line_none boundary 67
-    (codes "ontent-Disposition: form-data; name=\"" ++ ((part.name
+    line_none boundary 67 (codes "ontent-Disposition: form-data; name=\"" ++ ((part.name
     ++ (34 ∷ file_name part.file)) ++ (type_line part.file ++ ending part.content))) refl
     (skip_none 13 (10 ∷ 45 ∷ 45 ∷ boundary) (disposition part)
     (type_line part.file ++ ending part.content) (line_plain boundary part can)
@@ -125,10 +120,8 @@ inner_none boundary part can =
 abbrev pub empty_line : List ℕ
 empty_line = crlf ++ crlf
 
-glue_line : (parts : Option Parts)
-    → option_map (λ (p : Parts). (13 ∷ p.0, p.1))
-    (option_map (λ (p : Parts). (10 ∷ p.0, p.1)) parts)
-    ≡ glue crlf parts
+glue_line : (parts : Option Parts) → option_map (λ (p : Parts). (13 ∷ p.0, p.1))
+    (option_map (λ (p : Parts). (10 ∷ p.0, p.1)) parts) ≡ glue crlf parts
 glue_line None = refl
 glue_line (Some p) = refl
 
@@ -200,8 +193,7 @@ next_read boundary rest part h can =
 
 regroup : (part : Written) (after : List ℕ)
     → crlf ++ (disposition part ++ (type_line part.file ++ (crlf ++ (crlf
-    ++ (part.content ++ after)))))
-    ≡ inner part ++ after
+    ++ (part.content ++ after))))) ≡ inner part ++ after
 regroup part after =
     sym (ap (λ (bytes : List ℕ). crlf ++ bytes)
     (append_assoc (disposition part) (type_line part.file ++ ending part.content) after
@@ -209,10 +201,6 @@ regroup part after =
     (append_assoc (type_line part.file) (ending part.content) after)))
 
 -- All of them.
-
-is_open : (part : Written) (after : List ℕ) → closes (crlf ++ after) ≡ false
-unfolding closes
-is_open part after = refl
 
 parts_read : (boundary : List ℕ) (n : ℕ) (parts : List Written) → is_boundary boundary ≡ true
     → AllByRecursion (CanWrite boundary) parts → length parts ≤ n

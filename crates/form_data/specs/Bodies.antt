@@ -3,11 +3,9 @@
 -- passed over. A delimiter is at the front of a line, and may have blanks after it.
 use Rattle.std.specs.Prelude.{ℕ, zero, suc, ◌==◌, ◌&&◌, ◌||◌, nat_eq, Bool, if◌then◌else◌, length}
 use Rattle.std.specs.Prelude.{List, [], ◌∷◌, ◌++◌, drop, codes, Option, None, Some, option_map}
-use Rattle.std.specs.List.{starts_with}
-use Rattle.std.specs.Option.{option_and_then}
+use Rattle.std.specs.{List.starts_with, Option.option_and_then}
 use Rattle.form_data.specs.Cutting.{crlf, cut, without_blanks}
-use Rattle.form_data.specs.Headers.{name_in}
-use Rattle.form_data.specs.declared.bodies.Part.{Part}
+use Rattle.form_data.specs.{Headers.name_in, declared.bodies.Part.Part}
 
 -- a name and a content
 abbrev pub Found : Type 0
@@ -57,8 +55,7 @@ unfoldable pub parts_after : ℕ → List ℕ → List ℕ → Option (List Foun
 parts_after zero mark bytes = if closes bytes then Some [] else None
 parts_after (suc n) mark bytes =
     if closes bytes then Some []
-    else option_and_then
-    (λ next. option_map (λ parts. next.0 ∷ parts) (parts_after n mark next.1))
+    else option_and_then (λ next. option_map (λ parts. next.0 ∷ parts) (parts_after n mark next.1))
     (next_part mark bytes)
 
 -- what is after the first delimiter; at the front of a body no end of a line is before it

@@ -1,8 +1,7 @@
 -- Where a mark is in bytes (the project's own).
 use Rattle.std.specs.Prelude.{ℕ, ◌==◌, ◌&&◌, ◌||◌, nat_eq, Bool, true, false, if◌then◌else◌, length}
 use Rattle.std.specs.Prelude.{List, [], ◌∷◌, drop, Option, None, Some, option_map}
-use Rattle.std.specs.List.{starts_with}
-use Rattle.std.specs.Char.{to_ascii_lowercase}
+use Rattle.std.specs.{List.starts_with, Char.to_ascii_lowercase}
 
 -- the end of a line: CR and LF
 abbrev pub crlf : List ℕ

@@ -4,8 +4,7 @@
 use Rattle.std.specs.Prelude.{◌≡◌, ◌≤◌, ℕ, ◌==◌, not, Bool, true, List, [], ◌∷◌, ◌++◌, length, map}
 use Rattle.std.specs.Prelude.{codes, Option, None, Some}
 use Rattle.std.specs.List.{list_all, AllByRecursion}
-use Rattle.form_data.specs.Cutting.{crlf, cut}
-use Rattle.form_data.specs.Headers.{is_boundary}
+use Rattle.form_data.specs.{Cutting.crlf, Cutting.cut, Headers.is_boundary}
 use Rattle.form_data.specs.Bodies.{Found, delimiter, parts_of}
 
 -- the name and the type of a file

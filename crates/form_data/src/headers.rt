@@ -1,8 +1,7 @@
 //! Header fields and their parameters.
 
 ghost use Rattle.std.specs.Prelude.{◌≡◌, false, position};
-ghost use Rattle.std.specs.List.{list_all};
-ghost use Rattle.std.specs.Option.{option_copied};
+ghost use Rattle.std.specs.{List.list_all, Option.option_copied};
 ghost use Rattle.form_data.specs.Headers.{as_boundary, boundary_of, ends_plain, ends_with_space};
 ghost use Rattle.form_data.specs.Headers.{field_after, has_boundary_length, is_boundary};
 ghost use Rattle.form_data.specs.Headers.{is_boundary_byte, name_in, parameter, parameter_after};

@@ -1,11 +1,10 @@
 -- Bests, averages and the order, computed from the definitions.
 use Rattle.std.proofs.Common.{◌≡◌, refl, true, false, List, [], ◌∷◌, Some, None}
-use Rattle.attempts.specs.declared.Value.{Value}
-use Rattle.attempts.specs.declared.Value.TheVariants as value
-use Rattle.attempts.specs.declared.Unit.TheVariants.{Time, Moves}
+use Rattle.attempts.specs.declared.{Value.Value, Unit.TheVariants.Time, Unit.TheVariants.Moves}
 use Rattle.formats.specs.declared.events.Format.TheVariants.{Ao5, Mo3, Bo3}
-use Rattle.formats.specs.declared.results.Averaged.TheVariants as averaged
 use Rattle.formats.specs.Results.{best_of, average_of, is_better}
+use Rattle.attempts.specs.declared.Value.TheVariants as value
+use Rattle.formats.specs.declared.results.Averaged.TheVariants as averaged
 
 one_dnf : List Value
 one_dnf =

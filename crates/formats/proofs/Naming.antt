@@ -2,13 +2,8 @@
 use Rattle.std.proofs.Common.{◌≡◌, ◌↔◌, refl, ap, subst, sym, ℕ, Bool, true, false, cond, List, []}
 use Rattle.std.proofs.Common.{◌∷◌, Option, Some, unwrap_or, bytes_eq, find, ◌==◌, eqb-true}
 use Rattle.std.proofs.lemmas.Slice.Eq.{bytes_eq-Decides}
-use Rattle.formats.specs.declared.events.Event.{Event}
-use Rattle.formats.specs.declared.events.Event.TheVariants.{Cube3, Cube2, Cube4, Cube5, Cube6}
-use Rattle.formats.specs.declared.events.Event.TheVariants.{Cube7, Blind3, FewestMoves, OneHanded}
-use Rattle.formats.specs.declared.events.Event.TheVariants.{Clock, Megaminx, Pyraminx, Skewb}
-use Rattle.formats.specs.declared.events.Event.TheVariants.{Square1, Blind4, Blind5, MultiBlind}
-use Rattle.formats.specs.declared.events.Format.{Format}
-use Rattle.formats.specs.declared.events.Format.TheVariants.{Ao5, Mo3, Bo1, Bo2, Bo3}
+use Rattle.formats.specs.declared.events.Event.{Event, TheVariants.Cube3}
+use Rattle.formats.specs.declared.events.Format.{Format, TheVariants.Ao5}
 use Rattle.formats.specs.Events.{all_events, event_name, event_of_name, event_number}
 use Rattle.formats.specs.Events.{event_of_number, formats, format_name, format_named}
 
@@ -28,22 +23,7 @@ equal_bytes xs ys h = (bytes_eq-Decides xs ys).0 h
 event_of_name-event_name : (e : Event) → event_of_name (event_name e) ≡ Some e
 unfolding event_of_name
 event_of_name-event_name Cube3 = refl
-event_of_name-event_name Cube2 = refl
-event_of_name-event_name Cube4 = refl
-event_of_name-event_name Cube5 = refl
-event_of_name-event_name Cube6 = refl
-event_of_name-event_name Cube7 = refl
-event_of_name-event_name Blind3 = refl
-event_of_name-event_name FewestMoves = refl
-event_of_name-event_name OneHanded = refl
-event_of_name-event_name Clock = refl
-event_of_name-event_name Megaminx = refl
-event_of_name-event_name Pyraminx = refl
-event_of_name-event_name Skewb = refl
-event_of_name-event_name Square1 = refl
-event_of_name-event_name Blind4 = refl
-event_of_name-event_name Blind5 = refl
-event_of_name-event_name MultiBlind = refl
+event_of_name-event_name _ = refl
 
 event_of_name-found : (text : List ℕ) (e : Event) → event_of_name text ≡ Some e → text
     ≡ event_name e
@@ -66,22 +46,7 @@ pub ruleset event_names = only_name-event
 event_of_number-event_number : (e : Event) → event_of_number (event_number e) ≡ Some e
 unfolding event_of_number
 event_of_number-event_number Cube3 = refl
-event_of_number-event_number Cube2 = refl
-event_of_number-event_number Cube4 = refl
-event_of_number-event_number Cube5 = refl
-event_of_number-event_number Cube6 = refl
-event_of_number-event_number Cube7 = refl
-event_of_number-event_number Blind3 = refl
-event_of_number-event_number FewestMoves = refl
-event_of_number-event_number OneHanded = refl
-event_of_number-event_number Clock = refl
-event_of_number-event_number Megaminx = refl
-event_of_number-event_number Pyraminx = refl
-event_of_number-event_number Skewb = refl
-event_of_number-event_number Square1 = refl
-event_of_number-event_number Blind4 = refl
-event_of_number-event_number Blind5 = refl
-event_of_number-event_number MultiBlind = refl
+event_of_number-event_number _ = refl
 
 event_of_number-found : (number : ℕ) (e : Event) → event_of_number number ≡ Some e
     → number ≡ event_number e
@@ -105,10 +70,7 @@ pub ruleset event_numbers = only_number-event
 format_named-format_name : (f : Format) → format_named (format_name f) ≡ Some f
 unfolding format_named
 format_named-format_name Ao5 = refl
-format_named-format_name Mo3 = refl
-format_named-format_name Bo1 = refl
-format_named-format_name Bo2 = refl
-format_named-format_name Bo3 = refl
+format_named-format_name _ = refl
 
 format_named-found : (text : List ℕ) (f : Format) → format_named text ≡ Some f
     → text ≡ format_name f

@@ -1,15 +1,13 @@
 -- Sums of values that are in their range.
 use Rattle.std.proofs.Common.{◌≡◌, ℕ, ◌+◌, ◌*◌, ◌≤◌, true, List, [], ◌∷◌, length, All, sum, arith}
 use Rattle.std.specs.List.{AllByRecursion}
-use Rattle.std.proofs.lemmas.List.Elements.{recursion_from_All}
-use Rattle.std.proofs.lemmas.List.Sums.{sum_by-cons}
-use Rattle.attempts.specs.declared.Unit.{Unit as Measure}
+use Rattle.std.proofs.lemmas.List.{Elements.recursion_from_All, Sums.sum_by-cons}
+use Rattle.attempts.specs.declared.{Unit.Unit as Measure, Value.Value}
 use Rattle.attempts.specs.declared.Unit.TheVariants.{Time, Moves, Multi}
-use Rattle.attempts.specs.declared.Value.{Value}
-use Rattle.attempts.specs.declared.Value.TheVariants as value
 use Rattle.attempts.specs.Attempts.{IsInRangeOf, greatest_of}
 use Rattle.formats.specs.declared.events.Format.{Format}
 use Rattle.formats.specs.Results.{numbers, has_average, IsFormatOf}
+use Rattle.attempts.specs.declared.Value.TheVariants as value
 
 sum-number : (n : ℕ) (vs : List Value) → sum (numbers (value.Number n ∷ vs)) ≡ n + sum (numbers vs)
 sum-number n vs = sum_by-cons (λ x. x) n (numbers vs)

@@ -4,16 +4,13 @@ use Rattle.std.specs.Prelude.{◌≡◌, ℕ, ◌+◌, ◌-◌, ◌*◌, ◌/◌
 use Rattle.std.specs.Prelude.{nat_lt, nat_le, if◌then◌else◌, min, max, List, ◌++◌, ◌%◌, codes}
 use Rattle.std.specs.Prelude.{decimal, length, sum, filter_map, Option, None, Some, unwrap_or}
 use Rattle.std.specs.List.{reduce, list_any}
-use Rattle.attempts.specs.declared.Value.{Value}
-use Rattle.attempts.specs.declared.Value.TheVariants as value
-use Rattle.attempts.specs.declared.Unit.{Unit as Measure}
+use Rattle.attempts.specs.declared.{Value.Value, Unit.Unit as Measure}
 use Rattle.attempts.specs.declared.Unit.TheVariants.{Time, Moves, Multi}
-use Rattle.formats.specs.declared.events.Format.{Format}
-use Rattle.formats.specs.declared.events.Format.TheVariants.{Ao5, Mo3, Bo1, Bo2, Bo3}
-use Rattle.formats.specs.declared.results.Averaged.{Averaged}
-use Rattle.formats.specs.declared.results.Averaged.TheVariants as averaged
-use Rattle.formats.specs.declared.results.RankKey.{RankKey}
+use Rattle.formats.specs.declared.events.Format.{Format, TheVariants.Ao5, TheVariants.Mo3}
+use Rattle.formats.specs.declared.results.{Averaged.Averaged, RankKey.RankKey}
 use Rattle.attempts.specs.Texts.{time_text, two_digits, number_text}
+use Rattle.attempts.specs.declared.Value.TheVariants as value
+use Rattle.formats.specs.declared.results.Averaged.TheVariants as averaged
 
 abbrev pub number_of : Value → Option ℕ
 number_of (value.Number n) = Some n
@@ -74,9 +71,7 @@ mean_of unit ns = if length ns == 3 then averaged.Number (third_of unit (sum ns)
 abbrev pub average_of : Format → Measure → List Value → Averaged
 average_of Ao5 unit vs = if length vs == 5 then trimmed unit (numbers vs) else averaged.Missing
 average_of Mo3 unit vs = if length vs == 3 then mean_of unit (numbers vs) else averaged.Missing
-average_of Bo1 unit vs = averaged.Missing
-average_of Bo2 unit vs = averaged.Missing
-average_of Bo3 unit vs = averaged.Missing
+average_of _ unit vs = averaged.Missing
 
 abbrev pub averaged_number : Averaged → Option ℕ
 averaged_number (averaged.Number n) = Some n
@@ -87,9 +82,7 @@ averaged_number averaged.Missing = None
 abbrev pub has_average : Format → Bool
 has_average Ao5 = true
 has_average Mo3 = true
-has_average Bo1 = false
-has_average Bo2 = false
-has_average Bo3 = false
+has_average _ = false
 
 -- multi-blind has the best-of formats alone
 abbrev pub IsFormatOf : Measure → Format → Type 0

@@ -1,10 +1,9 @@
 //! Events and formats: their names and numbers, and which format an event may have.
 
 ghost use Rattle.std.specs.Prelude.{◌≡◌, ◌≤◌, ◌↔◌, ℕ, List, Some, IsTrue};
-ghost use Rattle.formats.specs.Events.{event_name, event_of_name, event_number};
-ghost use Rattle.formats.specs.Events.{event_of_number, event_edition, format_name};
-ghost use Rattle.formats.specs.Events.{format_named, attempts_of, unit_of, is_allowed};
-ghost use Rattle.formats.specs.Results.{IsFormatOf};
+ghost use Rattle.formats.specs.Events.{event_name, event_of_name, event_number, event_of_number};
+ghost use Rattle.formats.specs.Events.{event_edition, format_name, format_named, attempts_of};
+ghost use Rattle.formats.specs.{Events.unit_of, Events.is_allowed, Results.IsFormatOf};
 
 use attempts::Unit;
 

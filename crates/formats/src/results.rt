@@ -2,10 +2,9 @@
 
 ghost use Rattle.std.specs.Prelude.{◌≡◌, ◌≤◌, ◌↔◌, IsTrue, IfOk, All, length, sum};
 ghost use Rattle.attempts.specs.Attempts.{IsInRangeOf};
-ghost use Rattle.formats.specs.Results.{number_of, numbers, least, greatest, best_of, third_of};
-ghost use Rattle.formats.specs.Results.{trimmed, mean_of, averaged_number, average_of};
-ghost use Rattle.formats.specs.Results.{average_text, moves_text, IsFormatOf, key_of, is_less};
-ghost use Rattle.formats.specs.Results.{is_better};
+ghost use Rattle.formats.specs.Results.{number_of, greatest, third_of, IsFormatOf, is_better};
+ghost use Rattle.formats.specs.Results.{numbers, least, best_of, trimmed, mean_of, key_of, is_less};
+ghost use Rattle.formats.specs.Results.{averaged_number, average_of, average_text, moves_text};
 
 use crate::events::Format;
 use attempts::{NoMemory, Unit, Value, print_value, push_decimal, push_two_digits};

@@ -4,92 +4,42 @@ use Rattle.std.proofs.Common.{Some, Bool, true, false, append_assoc, inl, inr}
 use Rattle.std.specs.Prelude.{IsTrue, if◌then◌else◌, option_map}
 use Rattle.std.proofs.lemmas.List.{append-nil}
 use Rattle.answers.specs.declared.desk.Desk.{Ghosts as DeskOf}
-use Rattle.seal.specs.declared.channel.Channel.{Channel}
-use Rattle.seal.specs.Records.{preface_of, records}
-use Rattle.sealed.specs.declared.callers.Caller.{Caller}
+use Rattle.seal.specs.{declared.channel.Channel.Channel, Records.preface_of, Records.records}
+use Rattle.sealed.specs.declared.callers.{Caller.Caller, Access.Access, DeskKeys.DeskKeys}
 use Rattle.sealed.specs.declared.callers.Caller.TheVariants.{Anyone, Visitor}
-use Rattle.sealed.specs.declared.callers.Caller.TheVariants as caller
-use Rattle.sealed.specs.declared.callers.Access.{Access}
 use Rattle.sealed.specs.declared.callers.Access.TheVariants.{Open, Locked}
 use Rattle.sealed.specs.declared.callers.Holder.TheVariants.{Hall, Entry}
-use Rattle.sealed.specs.declared.callers.DeskKeys.{DeskKeys}
 use Rattle.sealed.specs.Admitting.{Admits, IsSealed, comes_under}
 use Rattle.sealed.specs.ServerSeals.{ServerSealOf, caller_of}
-use Rattle.sealed.specs.Fronts.{IsPrefaced}
-use Rattle.sealed.specs.Trials.{Hands}
-use Rattle.sealed.proofs.Admitted.{admits}
-use Rattle.serving.specs.Connection.{Begun}
-use Rattle.serving.specs.Asking.{request}
-use Rattle.serving.specs.Making.{speaking}
+use Rattle.sealed.{specs.Fronts.IsPrefaced, specs.Trials.Hands, proofs.Admitted.admits}
+use Rattle.serving.specs.{Connection.Begun, Asking.request, Making.speaking, Permissions.permitted}
 use Rattle.serving.specs.declared.permission.Permission.{Permission}
-use Rattle.serving.specs.declared.permission.Permission.TheVariants as permission
-use Rattle.serving.specs.declared.request.Request.{Request}
-use Rattle.serving.specs.declared.request.Request.TheVariants.{Heard, Lagging, Learned, Entered}
-use Rattle.serving.specs.declared.request.Request.TheVariants.{Asked, Printed, Ticked, Stopped}
-use Rattle.serving.specs.declared.request.Request.TheVariants.{Inspected, Copied, Strange, Ignored}
-use Rattle.serving.specs.declared.request.Request.TheVariants.{Denied, Withheld}
+use Rattle.serving.specs.declared.request.Request.{Request, TheVariants.Heard}
 use Rattle.serving.specs.Differing.{withheld, withheld_by}
-use Rattle.serving.specs.Permissions.{permitted}
 use Rattle.serving.specs.TurnLaw.{Began, Turn, begun_in, received}
-use Rattle.wire.specs.declared.standing.Difference.{Difference}
-use Rattle.wire.specs.declared.values.Version.{Version}
-use Rattle.guarded.specs.LockedConnections.{LockedConnectionOf}
+use Rattle.wire.specs.declared.{standing.Difference.Difference, values.Version.Version}
+use Rattle.guarded.specs.{LockedConnections.LockedConnectionOf, Permitting.permission_of}
 use Rattle.guarded.specs.LockedTurns.{Follow, Place, with_talk, within}
-use Rattle.guarded.specs.LockedTurns as GuardTurns
 use Rattle.guarded.specs.LockedLaw.{DeliversUnderHall, IsHallKey, IsUnderHall, delivers}
-use Rattle.guarded.specs.Permitting.{permission_of}
 use Rattle.guarded.proofs.Holding.{BeginsAt, begins_at, holds_first, turns_hold}
+use Rattle.sealed.specs.declared.callers.Caller.TheVariants as caller
+use Rattle.serving.specs.declared.permission.Permission.TheVariants as permission
+use Rattle.guarded.specs.LockedTurns as GuardTurns
 
 -- ---- what may be asked without the hall's key delivers nothing
 
 no_sheets : (r : Request) → IsTrue (delivers (permitted permission.Sheets r)) → ⊥
 no_sheets (Heard m) h = absurd cc
-no_sheets (Lagging m) h = absurd cc
-no_sheets (Learned run) h = absurd cc
-no_sheets (Entered e) h = absurd cc
-no_sheets (Asked id) h = absurd cc
-no_sheets (Printed event round position style) h = absurd cc
-no_sheets (Inspected differs) h = absurd cc
-no_sheets (Copied position) h = absurd cc
-no_sheets Ticked h = absurd cc
-no_sheets Stopped h = absurd cc
-no_sheets Strange h = absurd cc
-no_sheets Ignored h = absurd cc
-no_sheets Denied h = absurd cc
-no_sheets Withheld h = absurd cc
+no_sheets _ h = absurd cc
 
 no_entries : (r : Request) → IsTrue (delivers (permitted permission.Entries r)) → ⊥
 no_entries (Heard m) h = absurd cc
-no_entries (Lagging m) h = absurd cc
-no_entries (Learned run) h = absurd cc
-no_entries (Entered e) h = absurd cc
-no_entries (Asked id) h = absurd cc
-no_entries (Printed event round position style) h = absurd cc
-no_entries (Inspected differs) h = absurd cc
-no_entries (Copied position) h = absurd cc
-no_entries Ticked h = absurd cc
-no_entries Stopped h = absurd cc
-no_entries Strange h = absurd cc
-no_entries Ignored h = absurd cc
-no_entries Denied h = absurd cc
-no_entries Withheld h = absurd cc
+no_entries _ h = absurd cc
 
 -- whatever differs, what is delivered is delivered
 still_by : (d : Difference) (r : Request) → delivers (withheld_by d r) ≡ delivers r
 still_by d (Heard m) = refl
-still_by d (Lagging m) = refl
-still_by d (Learned run) = refl
-still_by d (Entered e) = refl
-still_by d (Asked id) = refl
-still_by d (Printed event round position style) = refl
-still_by d (Inspected other) = refl
-still_by d (Copied position) = refl
-still_by d Ticked = refl
-still_by d Stopped = refl
-still_by d Strange = refl
-still_by d Ignored = refl
-still_by d Denied = refl
-still_by d Withheld = refl
+still_by d _ = refl
 
 delivers_still : (differs : Option Difference) (r : Request)
     → delivers (withheld differs r) ≡ delivers r
@@ -157,21 +107,18 @@ under_hall (Some Visitor) locks server front handed earlier one r may h at =
 under_hall (Some (caller.Holder Entry)) locks server front handed earlier one r may h at =
     let two : Locked locks ≡ Locked h.0 = h.1 in
     let same : h.0 ≡ locks = cc in
-    let sealed =
-    subst (λ (l : DeskKeys). IsSealed l server front handed (Some Entry)) same h.2 in
+    let sealed = subst (λ (l : DeskKeys). IsSealed l server front handed (Some Entry)) same h.2 in
     under_second locks.old locks server front handed earlier one r refl may sealed at
 under_hall (Some (caller.Holder Hall)) locks server front handed earlier one r may h at =
     let two : Locked locks ≡ Locked h.0 = h.1 in
     let same : h.0 ≡ locks = cc in
-    let sealed =
-    subst (λ (l : DeskKeys). IsSealed l server front handed (Some Hall)) same h.2 in
+    let sealed = subst (λ (l : DeskKeys). IsSealed l server front handed (Some Hall)) same h.2 in
     under_key locks server front handed earlier one locks.hall sealed.client sealed.stream
     (inl refl) sealed.prefaced sealed.hands.1 at
 
 -- more came behind
 pub under_more : (locks : DeskKeys) (server front later : List ℕ) (earlier : List Begun)
-    (one : Begun)
-    → IsUnderHall locks server front earlier one
+    (one : Begun) → IsUnderHall locks server front earlier one
     → IsUnderHall locks server (front ++ later) earlier one
 under_more locks server front later earlier one h =
     let sealed = records (comes_under h.client server h.key) 0 h.bodies in
@@ -184,8 +131,7 @@ under_more locks server front later earlier one h =
       more = h.more;
       sixteen = h.sixteen;
       whole =
-          ap (λ z. z ++ later) h.whole
-          ∙ append_assoc (preface_of h.client) (sealed ++ h.rest) later
+          ap (λ z. z ++ later) h.whole ∙ append_assoc (preface_of h.client) (sealed ++ h.rest) later
           ∙ ap (λ z. preface_of h.client ++ z) (append_assoc sealed h.rest later);
       each = h.each;
       inside = h.inside;
@@ -195,10 +141,8 @@ under_more locks server front later earlier one h =
 
 follow_parts : {V : Type 0} (d : DeskOf V) (wire : Version)
     (a b : Place (speaking d.handles d.settles wire)) (earlier later : List Turn) (t : Turn)
-    → Follow a (earlier ++ t ∷ later) b
-    → (m : Place (speaking d.handles d.settles wire))
-    × (n : Place (speaking d.handles d.settles wire))
-    × Follow a earlier m × GuardTurns.Turns t m n
+    → Follow a (earlier ++ t ∷ later) b → (m : Place (speaking d.handles d.settles wire))
+    × (n : Place (speaking d.handles d.settles wire)) × Follow a earlier m × GuardTurns.Turns t m n
 follow_parts d wire a b [] later t h = (a, h.0, refl, h.1)
 follow_parts d wire a b (e ∷ earlier) later t h =
     let p = follow_parts d wire h.0 b earlier later t h.2 in
@@ -219,8 +163,7 @@ delivers_under_hall d home wire locks server earlier later one a b is follow may
     let handed = received h.inner in
     let front : k.front ≡ received earlier =
     sym (k.parts ∙ ap (λ (s : List ℕ). k.front ++ s) now.1 ∙ append-nil k.front) in
-    let at =
-    begins_at d home wire (within a) (within m) (with_talk p.1 turn.1) h.inner one
+    let at = begins_at d home wire (within a) (within m) (with_talk p.1 turn.1) h.inner one
     (ap (λ (g : LockedConnectionOf). g.talk) is) h.follow turn.2 in
     let who_may : one.may ≡ permission_of doors who =
     turn.3 ∙ ap (λ (e : ServerSealOf). permission_of e.doors (caller_of e)) now.0
@@ -228,12 +171,10 @@ delivers_under_hall d home wire locks server earlier later one a b is follow may
     let allowed =
     subst (λ (q : Permission). IsTrue (delivers (permitted q (request home one.frame)))) who_may
     (delivers_alike one.differs (permitted one.may (request home one.frame)) may) in
-    let admitted =
-    subst (λ (o : Access). Admits o server k.front handed who) k.doors_are
+    let admitted = subst (λ (o : Access). Admits o server k.front handed who) k.doors_are
     (subst (λ (s : List ℕ). Admits c.doors s k.front handed who) k.server_is
     (admits c k.front handed k.stands)) in
-    let under =
-    under_hall who locks server k.front handed (begun_in h.inner) one (request home one.frame)
-    allowed admitted at in
+    let under = under_hall who locks server k.front handed (begun_in h.inner) one
+    (request home one.frame) allowed admitted at in
     subst (λ (s : List ℕ). IsUnderHall locks server s (begun_in earlier) one) front
     (subst (λ (bs : List Begun). IsUnderHall locks server k.front bs one) h.begins under)

@@ -1,7 +1,6 @@
 -- The front of a stream tells one thing of it alone.
-use Rattle.std.proofs.Common.{◌≡◌, ℕ, ◌≤◌, List, ◌++◌, length, take}
-use Rattle.std.proofs.Common.{ap, ◌∙◌, append_assoc, arith, inl, inr}
-use Rattle.std.proofs.lemmas.List.{length-append, take-append-le}
+use Rattle.std.proofs.Common.{◌≡◌, ℕ, ◌≤◌, List, ◌++◌, length, take, ap, ◌∙◌, arith, inl, inr}
+use Rattle.std.proofs.{Common.append_assoc, lemmas.List.length-append, lemmas.List.take-append-le}
 use Rattle.seal.specs.Records.{mark, preface_of}
 use Rattle.sealed.specs.Fronts.{IsPrefaced, IsShort, IsUnsealed}
 

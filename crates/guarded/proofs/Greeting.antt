@@ -1,28 +1,22 @@
 -- What a desk sends first.
-use Rattle.std.proofs.Common.{◌≡◌, ℕ, List, [], ◌++◌, Bool, true, false}
-use Rattle.std.proofs.Common.{Option, Some, None, refl, sym, ap, subst, ◌∙◌, inl, inr}
-use Rattle.std.specs.Prelude.{option_map}
-use Rattle.std.proofs.lemmas.List.{append-nil}
+use Rattle.std.proofs.Common.{◌≡◌, ℕ, List, [], ◌++◌, Bool, true, false, Option, Some, None, refl}
+use Rattle.std.proofs.Common.{sym, ap, subst, ◌∙◌, inl, inr}
+use Rattle.std.{specs.Prelude.option_map, proofs.lemmas.List.append-nil}
 use Rattle.seal.specs.Records.{preface_of}
-use Rattle.sealed.specs.declared.callers.Caller.{Caller}
-use Rattle.sealed.specs.declared.callers.Caller.TheVariants.{Anyone, Visitor}
-use Rattle.sealed.specs.declared.callers.Caller.TheVariants as caller
-use Rattle.sealed.specs.declared.callers.Access.{Access}
-use Rattle.sealed.specs.declared.callers.Access.TheVariants.{Open, Locked}
-use Rattle.sealed.specs.declared.callers.Holder.{Holder}
-use Rattle.sealed.specs.declared.callers.DeskKeys.{DeskKeys}
-use Rattle.sealed.specs.declared.callers.StreamRefusal.{StreamRefusal}
+use Rattle.sealed.specs.declared.callers.Caller.{Caller, TheVariants.Anyone, TheVariants.Visitor}
+use Rattle.sealed.specs.declared.callers.Access.{Access, TheVariants.Open, TheVariants.Locked}
+use Rattle.sealed.specs.{declared.callers.Holder.Holder, Sent.HasSent, Sent.SentBy, Sent.SentPlain}
+use Rattle.sealed.specs.declared.callers.{DeskKeys.DeskKeys, StreamRefusal.StreamRefusal}
 use Rattle.sealed.specs.declared.callers.StreamRefusal.TheVariants.{Unsealed, NoMemory}
 use Rattle.sealed.specs.ServerSeals.{ServerSealOf, IsSameDesk, Stands, StandsAt, StandsPassing}
 use Rattle.sealed.specs.ServerSeals.{StandsReading, StandsTrying, caller_by, caller_of, held_by}
 use Rattle.sealed.specs.ServerSeals.{is_over, is_sealed, is_tried, over_by}
-use Rattle.sealed.specs.Fronts.{IsPrefaced, IsUnsealed}
-use Rattle.sealed.specs.Sent.{HasSent, SentBy, SentPlain}
-use Rattle.sealed.specs.Trials.{TrialOf}
+use Rattle.sealed.specs.{Fronts.IsPrefaced, Fronts.IsUnsealed, Trials.TrialOf}
 use Rattle.sealed.proofs.Fronting.{prefaced_more, unsealed_more}
 use Rattle.guarded.specs.LockedConnections.{greeting_if, greets}
 use Rattle.guarded.specs.LockedLaw.{IsGreeting}
 use Rattle.guarded.proofs.Fronts.{prefaced_short, prefaced_unsealed}
+use Rattle.sealed.specs.declared.callers.Caller.TheVariants as caller
 
 -- what was sent first so far
 abbrev pub opening_by : Option StreamRefusal → Option TrialOf → List ℕ → List ℕ
@@ -142,8 +136,7 @@ let_reading None c came handed body is h = sym (append-nil body)
 let_reading (Some t) c came handed body is h = absurd (let_tried c came handed t is h)
 
 let_at : (r : Option StreamRefusal) (c : ServerSealOf) (came handed body : List ℕ)
-    → IsLet c.doors came
-    → StandsAt r c came handed → Follows r c.trial false c [] body
+    → IsLet c.doors came → StandsAt r c came handed → Follows r c.trial false c [] body
 let_at None c came handed body is h = let_reading c.trial c came handed body is h
 let_at (Some Unsealed) c came handed body is h = absurd (let_refused c came handed is h)
 let_at (Some NoMemory) c came handed body is h = absurd h
@@ -154,8 +147,7 @@ first_reading None c = refl
 first_reading (Some t) c = append-nil (preface_of c.random)
 
 first_at : (r : Option StreamRefusal) (c : ServerSealOf) (came handed : List ℕ)
-    → StandsAt r c came handed
-    → Follows r c.trial false c [] []
+    → StandsAt r c came handed → Follows r c.trial false c [] []
 first_at None c came handed h = first_reading c.trial c
 first_at (Some Unsealed) c came handed h = append-nil (preface_of c.random)
 first_at (Some NoMemory) c came handed h = absurd h
@@ -172,9 +164,8 @@ from_passing (Some who) c d front handed piece later given body same h sent stan
     (let_is who c d front handed piece same.doors h) stands
 
 from_reading : (t : Option TrialOf) (c d : ServerSealOf)
-    (front handed piece later given body : List ℕ)
-    → IsSameDesk c d → StandsReading c t front handed → SentBy t c given body
-    → Stands d (front ++ piece) later
+    (front handed piece later given body : List ℕ) → IsSameDesk c d → StandsReading c t front handed
+    → SentBy t c given body → Stands d (front ++ piece) later
     → Follows d.refusal d.trial (is_tried t) d (opening_by None t c.random) body
 from_reading None c d front handed piece later given body same h sent stands =
     from_passing c.passing c d front handed piece later given body same h sent stands
@@ -184,9 +175,8 @@ from_reading (Some t) c d front handed piece later given body same h sent stands
     stands
 
 from_at : (r : Option StreamRefusal) (c d : ServerSealOf)
-    (front handed piece later given body : List ℕ)
-    → over_by r c.trial ≡ false → IsSameDesk c d → StandsAt r c front handed
-    → SentBy c.trial c given body → Stands d (front ++ piece) later
+    (front handed piece later given body : List ℕ) → over_by r c.trial ≡ false → IsSameDesk c d
+    → StandsAt r c front handed → SentBy c.trial c given body → Stands d (front ++ piece) later
     → Follows d.refusal d.trial (is_tried c.trial) d (opening_by r c.trial c.random) body
 from_at None c d front handed piece later given body hears same h sent stands =
     from_reading c.trial c d front handed piece later given body same h sent stands
@@ -196,8 +186,7 @@ from_at (Some why) c d front handed piece later given body hears same h sent sta
 -- The desk's preface is sent with a piece, where it was not before.
 pub greeted : (c d : ServerSealOf) (front handed piece later given body : List ℕ)
     → is_over c ≡ false → IsSameDesk c d → Stands c front handed → HasSent c given body
-    → Stands d (front ++ piece) later
-    → opening_of d ++ body
+    → Stands d (front ++ piece) later → opening_of d ++ body
     ≡ (opening_of c ++ body) ++ greeting_if (greets d.refusal (is_sealed c) (is_sealed d)) d.random
 greeted c d front handed piece later given body hears same h sent stands =
     from_at c.refusal c d front handed piece later given body hears same h sent stands

@@ -1,24 +1,18 @@
 -- The turns of a guarded connection serve what the doors admit.
 use Rattle.std.proofs.Common.{◌≡◌, sym, ap, subst, ◌∙◌, ℕ, List, []}
 use Rattle.answers.specs.declared.desk.Desk.{Ghosts as DeskOf}
-use Rattle.sealed.specs.declared.callers.Access.{Access}
-use Rattle.sealed.specs.Admitting.{Admits}
+use Rattle.sealed.specs.{declared.callers.Access.Access, Admitting.Admits, Sent.IsSent}
 use Rattle.sealed.specs.ServerSeals.{ServerSealOf, caller_of}
-use Rattle.sealed.specs.Sent.{IsSent}
-use Rattle.sealed.proofs.Admitted.{admits}
-use Rattle.sealed.proofs.Sending.{sends_what_is_given}
-use Rattle.serving.specs.Connection.{Begun}
-use Rattle.serving.specs.Making.{speaking}
+use Rattle.sealed.proofs.{Admitted.admits, Sending.sends_what_is_given}
+use Rattle.serving.{specs.Connection.Begun, specs.Making.speaking, proofs.TurnLaws.turns_serve}
 use Rattle.serving.specs.TurnLaw.{AreServed, begun_in, handed_out, received}
-use Rattle.serving.proofs.TurnLaws.{turns_serve}
 use Rattle.store.specs.declared.home.Home.{Home}
 use Rattle.wire.specs.declared.values.Version.{Version}
 use Rattle.guarded.specs.LockedConnections.{LockedConnectionOf, fresh_locked_connection}
 use Rattle.guarded.specs.LockedTurns.{Place, within}
 use Rattle.guarded.specs.LockedLaw.{GuardsServe, IsGreeting, IsGuarded, IsGuardedStream}
-use Rattle.guarded.proofs.Greeting.{greeting_is, opening_of}
+use Rattle.guarded.proofs.{Greeting.greeting_is, Greeting.opening_of, Keeping.Keeps}
 use Rattle.guarded.proofs.Holding.{Holds, holds_first, turns_hold}
-use Rattle.guarded.proofs.Keeping.{Keeps}
 
 -- what came over a stream, and what was sent
 pub stream_of : (doors : Access) (server : List ℕ) (g : LockedConnectionOf)
@@ -61,23 +55,19 @@ guarded_of : {V : Type 0} (d : DeskOf V) (home : Home) (wire : Version) (doors :
 guarded_of d home wire doors server a b came sent begun is h =
     let handed = received h.inner in
     let answers = handed_out h.inner in
-    let all =
-    turns_serve d home wire h.inner (within a) (within b)
-    (ap (λ (g : LockedConnectionOf). g.talk) is)
-    h.follow in
+    let all = turns_serve d home wire h.inner (within a) (within b)
+    (ap (λ (g : LockedConnectionOf). g.talk) is) h.follow in
     record {
       handed = handed;
       answers = answers;
       rest = all.1;
       stream = stream_of doors server b.guard came handed answers sent begun h.keeps;
       served =
-          subst
-          (λ (bs : List Begun). AreServed home (within a) (within b) handed answers bs all.1)
+          subst (λ (bs : List Begun). AreServed home (within a) (within b) handed answers bs all.1)
           (all.3 ∙ h.begins) all.2;
     }
 
 pub guards_serve : {V : Type 0} (d : DeskOf V) → GuardsServe d
 guards_serve d home wire doors server turns a b is follow =
     guarded_of d home wire doors server a b (received turns) (handed_out turns) (begun_in turns) is
-    (turns_hold doors server a a b turns [] [] []
-    (holds_first home wire doors server a is) follow)
+    (turns_hold doors server a a b turns [] [] [] (holds_first home wire doors server a is) follow)

@@ -1,26 +1,21 @@
 -- What holds after some turns of a guarded connection that alone is served.
-use Rattle.std.proofs.Common.{◌≡◌, refl, sym, ap, subst, ◌∙◌, ℕ, List, [], ◌∷◌, ◌++◌}
-use Rattle.std.proofs.Common.{append_assoc}
-use Rattle.std.proofs.lemmas.List.{append-nil}
-use Rattle.std.specs.List.{flat_map}
+use Rattle.std.proofs.Common.{◌≡◌, refl, sym, ap, subst, ◌∙◌, ℕ, List, [], ◌∷◌, ◌++◌, append_assoc}
+use Rattle.std.{proofs.lemmas.List.append-nil, specs.List.flat_map}
 use Rattle.answers.specs.declared.desk.Desk.{Ghosts as DeskOf}
 use Rattle.sealed.specs.declared.callers.Access.{Access}
-use Rattle.serving.specs.Connection.{AreBegun, Begun, frames_of}
-use Rattle.serving.specs.Making.{Way, speaking}
-use Rattle.serving.specs.Turns as Turns
+use Rattle.serving.{specs.Connection.AreBegun, specs.TurnLaw.taken_in, proofs.TurnLaws.turns_serve}
+use Rattle.serving.specs.{Connection.Begun, Connection.frames_of, Making.Way, Making.speaking}
 use Rattle.serving.specs.TurnLaw.{Began, Turn, begun_at, begun_in, came_in, handed_out, received}
-use Rattle.serving.specs.TurnLaw.{taken_in}
-use Rattle.serving.specs.TurnLaw as TurnLaw
 use Rattle.serving.proofs.Connecting.{bytes_then, frames_of_both}
-use Rattle.serving.proofs.TurnLaws.{turns_serve}
 use Rattle.store.specs.declared.home.Home.{Home}
-use Rattle.wire.specs.declared.frame.Frame.{Frame}
-use Rattle.wire.specs.declared.values.Version.{Version}
+use Rattle.wire.specs.declared.{frame.Frame.Frame, values.Version.Version}
 use Rattle.wire.specs.Spelling.{spelling}
 use Rattle.guarded.specs.LockedConnections.{fresh_locked_connection}
 use Rattle.guarded.specs.LockedTurns.{Follow, Place, within}
 use Rattle.guarded.proofs.Keeping.{Keeps, keeps_as, keeps_first, turn_goes}
 use Rattle.guarded.proofs.Lists.{begun_in-both, follow_both, handed_out-both, received-both}
+use Rattle.serving.specs.Turns as Turns
+use Rattle.serving.specs.TurnLaw as TurnLaw
 
 -- The connection within took these turns, in which these frames were begun, and what holds of the
 -- guarded one goes on.
@@ -65,9 +60,8 @@ turns_go {V} {way} doors server [] a b same = (
         keeps_as doors server b.guard came handed answers sent (came ++ []) (handed ++ [])
         (answers ++ []) (sent ++ []) begun (begun ++ []) (sym (append-nil came))
         (sym (append-nil handed)) (sym (append-nil answers)) (sym (append-nil sent))
-        (sym (append-nil begun))
-        (subst (λ (p : Place way). Keeps doors server p.guard came handed answers sent begun) same
-        h);
+        (sym (append-nil begun)) (subst
+        (λ (p : Place way). Keeps doors server p.guard came handed answers sent begun) same h);
   },
 )
 turns_go doors server (t ∷ ts) a b k =
@@ -87,17 +81,15 @@ turns_go doors server (t ∷ ts) a b k =
             ((sent ++ taken_in t) ++ handed_out ts) (came ++ (came_in t ++ received ts))
             (handed ++ received (g.0 ++ later.0)) (answers ++ handed_out (g.0 ++ later.0))
             (sent ++ (taken_in t ++ handed_out ts)) ((begun ++ begun_at t) ++ begun_in ts)
-            (begun ++ (begun_at t ++ begun_in ts))
-            (append_assoc came (came_in t) (received ts))
+            (begun ++ (begun_at t ++ begun_in ts)) (append_assoc came (came_in t) (received ts))
             (append_assoc handed (received g.0) (received later.0)
             ∙ ap (λ (s : List ℕ). handed ++ s) (sym (received-both g.0 later.0)))
             (append_assoc answers (handed_out g.0) (handed_out later.0)
             ∙ ap (λ (s : List ℕ). answers ++ s) (sym (handed_out-both g.0 later.0)))
             (append_assoc sent (taken_in t) (handed_out ts))
-            (append_assoc begun (begun_at t) (begun_in ts))
-            (later.1.keeps (came ++ came_in t) (handed ++ received g.0)
-            (answers ++ handed_out g.0) (sent ++ taken_in t) (begun ++ begun_at t)
-            (g.1.keeps came handed answers sent begun h));
+            (append_assoc begun (begun_at t) (begun_in ts)) (later.1.keeps (came ++ came_in t)
+            (handed ++ received g.0) (answers ++ handed_out g.0) (sent ++ taken_in t)
+            (begun ++ begun_at t) (g.1.keeps came handed answers sent begun h));
       },
     )
 
@@ -148,17 +140,14 @@ pub begins_at : {V : Type 0} (d : DeskOf V) (home : Home) (wire : Version)
     → TurnLaw.Turns (Began one) m n → BeginsAt (received inner) (begun_in inner) one
 begins_at d home wire a m n inner one is follow turn =
     let began : Turn = Began one in
-    let all =
-    turns_serve d home wire (inner ++ began ∷ []) a n is
+    let all = turns_serve d home wire (inner ++ began ∷ []) a n is
     (follow_both a m n inner (began ∷ []) follow (n, turn, refl)) in
     let more = flat_map spelling n.talk.waiting ++ all.1 in
-    let begun : all.0 ≡ begun_in inner ++ one ∷ [] =
-    all.3 ∙ begun_in-both inner (began ∷ []) in
+    let begun : all.0 ≡ begun_in inner ++ one ∷ [] = all.3 ∙ begun_in-both inner (began ∷ []) in
     let came : received (inner ++ began ∷ []) ≡ received inner =
     received-both inner (began ∷ []) ∙ append-nil (received inner) in
-    let begins =
-    subst (λ (bs : List Begun). AreBegun (received (inner ++ began ∷ [])) bs more) begun
-    all.2.begins in
+    let begins = subst (λ (bs : List Begun). AreBegun (received (inner ++ began ∷ [])) bs more)
+    begun all.2.begins in
     record {
       more = more;
       whole = sym came ∙ begins.whole ∙ last_bytes (begun_in inner) one more;

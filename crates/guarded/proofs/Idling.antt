@@ -1,18 +1,13 @@
 -- A connection to which nothing was let in.
 use Rattle.std.proofs.Common.{◌≡◌, refl, sym, ap, subst, ◌∙◌, ℕ, List, [], ◌∷◌, ◌++◌, Option, None}
-use Rattle.std.proofs.Common.{Some}
-use Rattle.std.proofs.lemmas.List.{append_assoc}
+use Rattle.std.proofs.{Common.Some, lemmas.List.append_assoc}
 use Rattle.std.specs.List.{flat_map, AllByRecursion}
-use Rattle.serving.specs.declared.ends.ConnectionEnd.{ConnectionEnd}
-use Rattle.serving.specs.declared.ends.ConnectionEnd.TheVariants as end
-use Rattle.serving.specs.Turns.{Talk, ReadsTo}
-use Rattle.serving.proofs.Pieces.{front_none}
-use Rattle.serving.proofs.TurnLaws.{keeps_nothing, not_begun}
-use Rattle.wire.specs.declared.frame.Frame.{Frame}
-use Rattle.wire.specs.Ranges.{IsFrame}
-use Rattle.wire.specs.Spelling.{spelling}
+use Rattle.serving.specs.{declared.ends.ConnectionEnd.ConnectionEnd, Turns.Talk, Turns.ReadsTo}
+use Rattle.serving.proofs.{Pieces.front_none, TurnLaws.keeps_nothing, TurnLaws.not_begun}
+use Rattle.wire.specs.{declared.frame.Frame.Frame, Ranges.IsFrame, Spelling.spelling}
 use Rattle.wire.specs.Stream.{Begins, Breaks, IsBegun, Reader, Waits, front, holding, keeps}
 use Rattle.wire.proofs.Streams.{front_again}
+use Rattle.serving.specs.declared.ends.ConnectionEnd.TheVariants as end
 
 -- nothing is held, and no frame waits
 pub record IsIdle (talk : Talk) : Type 0 where

@@ -1,44 +1,32 @@
 -- What holds of a guarded connection after each of its turns, whatever is served meanwhile.
 use Rattle.std.proofs.Common.{◌≡◌, refl, sym, ap, subst, ◌∙◌, ℕ, List, [], ◌∷◌, ◌++◌, length, drop}
 use Rattle.std.proofs.Common.{Option, None, Some, Bool, true, false, arith, inl, inr, append_assoc}
-use Rattle.std.proofs.lemmas.List.{append-nil}
-use Rattle.std.proofs.Math.Seq.{drop-length}
+use Rattle.std.proofs.{lemmas.List.append-nil, Math.Seq.drop-length}
 use Rattle.std.specs.Prelude.{IsSome, option_map}
-use Rattle.sealed.specs.declared.callers.Caller.{Caller}
-use Rattle.sealed.specs.declared.callers.Access.{Access}
-use Rattle.sealed.specs.declared.callers.Access.TheVariants.{Open, Locked}
-use Rattle.sealed.specs.declared.callers.Holder.{Holder}
-use Rattle.sealed.specs.declared.callers.Holder.TheVariants.{Hall, Entry}
-use Rattle.sealed.specs.declared.callers.StreamRefusal.{StreamRefusal}
+use Rattle.sealed.specs.{declared.callers.Caller.Caller, Sent.HasSent, Tunnels.TunnelOf}
+use Rattle.sealed.specs.declared.callers.Access.{Access, TheVariants.Open, TheVariants.Locked}
+use Rattle.sealed.specs.declared.callers.Holder.{Holder, TheVariants.Hall, TheVariants.Entry}
+use Rattle.sealed.specs.{declared.callers.StreamRefusal.StreamRefusal, Admitting.Admits}
 use Rattle.sealed.specs.declared.callers.StreamRefusal.TheVariants.{Unsealed, NoMemory}
-use Rattle.sealed.specs.Admitting.{Admits}
 use Rattle.sealed.specs.ServerSeals.{ServerSealOf, IsSameDesk, SendsBy, SendsPlain, Stands}
-use Rattle.sealed.specs.ServerSeals.{caller_by}
-use Rattle.sealed.specs.ServerSeals.{caller_of, fresh_server_seal, held_by, is_sealed}
-use Rattle.sealed.specs.Sent.{HasSent}
+use Rattle.sealed.specs.ServerSeals.{caller_by, caller_of, fresh_server_seal, held_by, is_sealed}
 use Rattle.sealed.specs.Trials.{SealsAs, SealsEntry, TrialOf}
-use Rattle.sealed.specs.Tunnels.{TunnelOf}
-use Rattle.sealed.proofs.Admitted.{admits}
-use Rattle.sealed.proofs.Sending.{sealing_goes_on, sealing_reads}
-use Rattle.serving.specs.Connection.{Begun}
-use Rattle.serving.specs.Making.{Way, Outside}
-use Rattle.serving.specs.Turns.{Talk}
-use Rattle.serving.specs.Turns as Turns
+use Rattle.sealed.proofs.{Admitted.admits, Sending.sealing_goes_on, Sending.sealing_reads}
+use Rattle.serving.specs.{Connection.Begun, Making.Way, Making.Outside, Turns.Talk}
 use Rattle.serving.specs.TurnLaw.{Began, Came, Rested, Took, Turn, begun_at, begun_in, came_in}
 use Rattle.serving.specs.TurnLaw.{handed_out, received, taken_in}
-use Rattle.serving.specs.TurnLaw as TurnLaw
 use Rattle.store.specs.declared.home.Home.{Home}
-use Rattle.wire.specs.declared.frame.Frame.{Frame}
-use Rattle.wire.specs.declared.values.Version.{Version}
+use Rattle.wire.specs.declared.{frame.Frame.Frame, values.Version.Version}
 use Rattle.guarded.specs.LockedConnections.{LockedConnectionOf, IsFree, LetsIn, Loses, RunsOut}
-use Rattle.guarded.specs.LockedConnections.{Seals, Starves}
-use Rattle.guarded.specs.LockedConnections.{WantsRead, fresh_locked_connection, greeting_if, greets}
+use Rattle.guarded.specs.LockedConnections.{Seals, Starves, WantsRead, fresh_locked_connection}
+use Rattle.guarded.specs.LockedConnections.{greeting_if, greets}
 use Rattle.guarded.specs.LockedTurns.{IsQuiet, Place, with_talk, within}
-use Rattle.guarded.specs.LockedTurns as GuardTurns
-use Rattle.guarded.specs.LockedLaw.{AreAllowed, IsAllowed}
-use Rattle.guarded.specs.Permitting.{permission_of}
+use Rattle.guarded.specs.{LockedLaw.AreAllowed, LockedLaw.IsAllowed, Permitting.permission_of}
 use Rattle.guarded.proofs.Greeting.{greeted, opening_by, opening_of}
 use Rattle.guarded.proofs.Idling.{IsIdle, first_none, idle_came, second_none}
+use Rattle.serving.specs.Turns as Turns
+use Rattle.serving.specs.TurnLaw as TurnLaw
+use Rattle.guarded.specs.LockedTurns as GuardTurns
 
 -- What holds after some turns, in which these bytes came over the stream, these were let in, these
 -- answers were taken of the connection within, and these bytes were taken of what is sent: the
@@ -73,8 +61,7 @@ pub keeps_first : (home : Home) (wire : Version) (doors : Access) (server : List
     (g : LockedConnectionOf)
     → g ≡ fresh_locked_connection doors server home wire → Keeps doors server g [] [] [] [] []
 keeps_first home wire doors server g is =
-    subst (λ (z : LockedConnectionOf). Keeps doors server z [] [] [] [] []) (sym is)
-    (record {
+    subst (λ (z : LockedConnectionOf). Keeps doors server z [] [] [] [] []) (sym is) (record {
       side = fresh_server_seal doors server;
       doors_are = refl;
       server_is = refl;
@@ -124,8 +111,7 @@ pub keeps_as : (doors : Access) (server : List ℕ) (g : LockedConnectionOf)
     → Keeps doors server g came handed answers sent begun
     → Keeps doors server g came1 handed1 answers1 sent1 begun1
 keeps_as doors server g came handed answers sent came1 handed1 answers1 sent1 begun begun1 c h a s b
-    k =
-    subst (λ (z : List Begun). Keeps doors server g came1 handed1 answers1 sent1 z) b
+    k = subst (λ (z : List Begun). Keeps doors server g came1 handed1 answers1 sent1 z) b
     (subst (λ (z : List ℕ). Keeps doors server g came1 handed1 answers1 z begun) s
     (subst (λ (z : List ℕ). Keeps doors server g came1 handed1 z sent begun) a
     (subst (λ (z : List ℕ). Keeps doors server g came1 z answers sent begun) h
@@ -184,9 +170,8 @@ goes_still doors server t a b talk quiet none out fed = (
 goes_starved : {V : Type 0} {way : Way V} (doors : Access) (server piece : List ℕ) (a b : Place way)
     → Starves a.guard b.guard → IsQuiet a b → GoesSome doors server (Came piece) a b
 goes_starved doors server piece a b starves quiet =
-    goes_still doors server (Came piece) a b starves.talk quiet refl
-    (λ sent.
-    ap (λ (s : List ℕ). s ++ b.guard.output) (append-nil sent)
+    goes_still doors server (Came piece) a b starves.talk quiet refl (λ sent. ap
+    (λ (s : List ℕ). s ++ b.guard.output) (append-nil sent)
     ∙ ap (λ (s : List ℕ). sent ++ s) starves.output)
     (λ no. absurd (no_truth b.guard.starved starves.starved no))
 
@@ -196,8 +181,7 @@ goes_taken : {V : Type 0} {way : Way V} (doors : Access) (server : List ℕ) (t 
     → begun_at t ≡ [] → came_in t ≡ [] → a.guard.output ≡ taken_in t ++ b.guard.output
     → GoesSome doors server t a b
 goes_taken doors server t a b is quiet none nothing parts =
-    goes_still doors server t a b (ap (λ (g : LockedConnectionOf). g.talk) is) quiet none
-    (λ sent.
+    goes_still doors server t a b (ap (λ (g : LockedConnectionOf). g.talk) is) quiet none (λ sent.
     append_assoc sent (taken_in t) b.guard.output ∙ ap (λ (s : List ℕ). sent ++ s) (sym parts))
     (λ fed. (
       sym (ap (λ (g : LockedConnectionOf). g.starved) is) ∙ fed,
@@ -243,8 +227,7 @@ came_keeps doors server g new came handed answers sent piece more begun wants le
       body = h.body;
       given = lets.sends answers h.body given;
       sends =
-          ap (λ (s : List ℕ). sent ++ s) lets.output
-          ∙ ap (λ (s : List ℕ). s ++ first) empty
+          ap (λ (s : List ℕ). sent ++ s) lets.output ∙ ap (λ (s : List ℕ). s ++ first) empty
           ∙ sym (greeted c d h.front handed piece (handed ++ more) answers h.body wants.hears
           lets.same was given stands);
       allowed =
@@ -318,8 +301,7 @@ stays_by : (o : Option TrialOf) (c d : ServerSealOf) (bytes sent : List ℕ) →
     → SendsBy o bytes c d sent → StaysSo c d
 stays_by None c d bytes sent is h = stays_plain c.passing bytes sent c d h
 stays_by (Some t) c d bytes sent is h =
-    subst (λ (e : ServerSealOf). StaysSo c e) (sym h.2)
-    (record {
+    subst (λ (e : ServerSealOf). StaysSo c e) (sym h.2) (record {
       opening =
           opening_tried c.refusal t h.0 c.random
           ∙ sym (ap (λ (o : Option TrialOf). opening_by c.refusal o c.random) is);
@@ -343,8 +325,7 @@ not_idle talk served frame next idle =
 
 -- this frame is begun as one of whoever calls
 one_allowed : (doors : Access) (g : LockedConnectionOf) (side : ServerSealOf) (served : Talk)
-    (one : Begun)
-    (front handed : List ℕ) → g.called ≡ side → side.doors ≡ doors
+    (one : Begun) (front handed : List ℕ) → g.called ≡ side → side.doors ≡ doors
     → Turns.BeginsNext g.talk served one.frame → (handed ≡ [] → IsIdle g.talk)
     → one.may ≡ permission_of g.called.doors (caller_of g.called) → Stands side front handed
     → IsAllowed doors (caller_of side) one
@@ -365,9 +346,8 @@ all_and_one doors who [] one h last = (last, tt)
 all_and_one doors who (b ∷ begun) one h last = (h.0, all_and_one doors who begun one h.1 last)
 
 allowed_more : (doors : Access) (g : LockedConnectionOf) (side : ServerSealOf) (served : Talk)
-    (one : Begun)
-    (front handed : List ℕ) (begun : List Begun) → g.called ≡ side → side.doors ≡ doors
-    → Turns.BeginsNext g.talk served one.frame → (handed ≡ [] → IsIdle g.talk)
+    (one : Begun) (front handed : List ℕ) (begun : List Begun) → g.called ≡ side
+    → side.doors ≡ doors → Turns.BeginsNext g.talk served one.frame → (handed ≡ [] → IsIdle g.talk)
     → one.may ≡ permission_of g.called.doors (caller_of g.called) → Stands side front handed
     → AreAllowed doors (caller_of side) begun
     → AreAllowed doors (caller_of side) (begun ++ one ∷ [])
@@ -377,11 +357,10 @@ allowed_more doors g side served one front handed begun is are next idle may sta
 
 -- its answer was lost
 lost_keeps : (doors : Access) (server : List ℕ) (g new : LockedConnectionOf) (served : Talk)
-    (one : Begun)
-    (came handed answers sent : List ℕ) (begun : List Begun) → IsFree g
+    (one : Begun) (came handed answers sent : List ℕ) (begun : List Begun) → IsFree g
     → Turns.BeginsNext g.talk served one.frame
-    → one.may ≡ permission_of g.called.doors (caller_of g.called)
-    → Loses served g new → Keeps doors server g came handed answers sent begun
+    → one.may ≡ permission_of g.called.doors (caller_of g.called) → Loses served g new
+    → Keeps doors server g came handed answers sent begun
     → Keeps doors server new came handed answers sent (begun ++ one ∷ [])
 lost_keeps doors server g new served one came handed answers sent begun free next may loses h =
     record {
@@ -404,11 +383,10 @@ lost_keeps doors server g new served one came handed answers sent begun free nex
 
 -- or it was sealed
 sealed_keeps : (doors : Access) (server : List ℕ) (g new : LockedConnectionOf) (served : Talk)
-    (one : Begun)
-    (came handed answers sent : List ℕ) (begun : List Begun) → IsFree g
+    (one : Begun) (came handed answers sent : List ℕ) (begun : List Begun) → IsFree g
     → Turns.BeginsNext g.talk served one.frame
-    → one.may ≡ permission_of g.called.doors (caller_of g.called)
-    → Seals served g new → Keeps doors server g came handed answers sent begun
+    → one.may ≡ permission_of g.called.doors (caller_of g.called) → Seals served g new
+    → Keeps doors server g came handed answers sent begun
     → Keeps doors server new came handed (answers ++ served.pending) sent (begun ++ one ∷ [])
 sealed_keeps doors server g new served one came handed answers sent begun free next may seals h =
     let now = h.whole free.fed in
@@ -453,8 +431,7 @@ goes_lost : {V : Type 0} {way : Way V} (doors : Access) (server : List ℕ) (one
     (served : Talk) (a b : Place way) → IsFree a.guard
     → TurnLaw.Turns (Began one) (within a) (with_talk b served)
     → one.may ≡ permission_of a.guard.called.doors (caller_of a.guard.called)
-    → Loses served a.guard b.guard
-    → GoesSome doors server (Began one) a b
+    → Loses served a.guard b.guard → GoesSome doors server (Began one) a b
 goes_lost doors server one served a b free turn may loses =
     let here = subst (λ (t : Talk). TurnLaw.Turns (Began one) (within a) (with_talk b t))
     (sym loses.talk) turn in (
@@ -466,9 +443,8 @@ goes_lost doors server one served a b free turn may loses =
             keeps_as doors server b.guard came handed answers sent (came ++ []) (handed ++ [])
             (answers ++ []) (sent ++ []) (begun ++ one ∷ []) (begun ++ one ∷ [])
             (sym (append-nil came)) (sym (append-nil handed)) (sym (append-nil answers))
-            (sym (append-nil sent)) refl
-            (lost_keeps doors server a.guard b.guard served one came handed answers sent begun free
-            turn.0 may loses h);
+            (sym (append-nil sent)) refl (lost_keeps doors server a.guard b.guard served one came
+            handed answers sent begun free turn.0 may loses h);
       },
     )
 
@@ -488,8 +464,7 @@ goes_sealed : {V : Type 0} {way : Way V} (doors : Access) (server : List ℕ) (o
     (served : Talk) (a b : Place way) → IsFree a.guard
     → TurnLaw.Turns (Began one) (within a) (with_talk b served)
     → one.may ≡ permission_of a.guard.called.doors (caller_of a.guard.called)
-    → Seals served a.guard b.guard
-    → GoesSome doors server (Began one) a b
+    → Seals served a.guard b.guard → GoesSome doors server (Began one) a b
 goes_sealed doors server one served a b free turn may seals = (
   Began one ∷ Took served.pending ∷ [],
   record {
@@ -501,9 +476,8 @@ goes_sealed doors server one served a b free turn may seals = (
         (handed ++ []) (answers ++ (served.pending ++ [])) (sent ++ []) (begun ++ one ∷ [])
         (begun ++ one ∷ []) (sym (append-nil came)) (sym (append-nil handed))
         (ap (λ (s : List ℕ). answers ++ s) (sym (append-nil served.pending)))
-        (sym (append-nil sent)) refl
-        (sealed_keeps doors server a.guard b.guard served one came handed answers sent begun free
-        turn.0 may seals h);
+        (sym (append-nil sent)) refl (sealed_keeps doors server a.guard b.guard served one came
+        handed answers sent begun free turn.0 may seals h);
   },
 )
 

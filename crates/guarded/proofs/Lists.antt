@@ -1,10 +1,7 @@
 -- Lists of turns, one after the other.
-use Rattle.std.proofs.Common.{◌≡◌, refl, sym, ap, subst, ◌∙◌, ℕ, List, [], ◌∷◌, ◌++◌}
-use Rattle.std.proofs.Common.{append_assoc}
-use Rattle.serving.specs.Connection.{Begun}
-use Rattle.serving.specs.Making.{Way}
+use Rattle.std.proofs.Common.{◌≡◌, refl, sym, ap, subst, ◌∙◌, ℕ, List, [], ◌∷◌, ◌++◌, append_assoc}
+use Rattle.serving.specs.{Connection.Begun, Making.Way, TurnLaw.received, TurnLaw.taken_in}
 use Rattle.serving.specs.TurnLaw.{Turn, Follow, Place, begun_at, begun_in, came_in, handed_out}
-use Rattle.serving.specs.TurnLaw.{received, taken_in}
 
 pub received-both : (ts us : List Turn) → received (ts ++ us) ≡ received ts ++ received us
 received-both [] us = refl

@@ -1,30 +1,24 @@
 -- A connection behind its door: what it has between two turns, and what each call does (the
 -- project's own).
-use Rattle.std.specs.Prelude.{◌≡◌, ◌≢◌, ◌⊎◌, ℕ, ◌&&◌, not, Bool, true, false, List, [], ◌∷◌}
-use Rattle.std.specs.Prelude.{length, drop, Option, None, Some}
+use Rattle.std.specs.Prelude.{◌≡◌, ◌≢◌, ◌⊎◌, ℕ, ◌&&◌, not, Bool, true, false, List, [], ◌∷◌, length}
+use Rattle.std.specs.Prelude.{drop, Option, None, Some}
 use Rattle.answers.specs.declared.desk.Desk.{Ghosts as DeskOf}
 use Rattle.seal.specs.Records.{preface_of}
 use Rattle.sealed.specs.ServerSeals.{ServerSealOf, IsSameDesk, KeepsCaller, Sends, caller_of}
-use Rattle.sealed.specs.ServerSeals.{fresh_server_seal}
-use Rattle.sealed.specs.ServerSeals.{is_over, is_sealed}
-use Rattle.sealed.specs.ServerSeals as Calls
-use Rattle.sealed.specs.declared.callers.Caller.{Caller}
+use Rattle.sealed.specs.ServerSeals.{fresh_server_seal, is_over, is_sealed}
+use Rattle.sealed.specs.declared.callers.{Caller.Caller, Access.Access, StreamRefusal.StreamRefusal}
 use Rattle.sealed.specs.declared.callers.Caller.TheVariants.{Anyone, Visitor}
-use Rattle.sealed.specs.declared.callers.Caller.TheVariants as caller
-use Rattle.sealed.specs.declared.callers.Access.{Access}
-use Rattle.sealed.specs.declared.callers.StreamRefusal.{StreamRefusal}
 use Rattle.sealed.specs.declared.callers.StreamRefusal.TheVariants.{Unsealed, NoMemory}
 use Rattle.sealed.specs.Sent.{KeepsSent}
-use Rattle.serving.specs.Differing.{first_frame}
-use Rattle.serving.specs.Kinds.{dear_next, message_next}
-use Rattle.serving.specs.declared.peers.Peers.{Ghosts as PeersOf}
-use Rattle.serving.specs.Turns.{Talk, new_talk}
-use Rattle.serving.specs.Turns as Turns
+use Rattle.serving.specs.{Differing.first_frame, declared.peers.Peers.Ghosts as PeersOf}
+use Rattle.serving.specs.{Kinds.dear_next, Kinds.message_next, Turns.Talk, Turns.new_talk}
 use Rattle.store.specs.declared.home.Home.{Home}
-use Rattle.wire.specs.declared.frame.Frame.{Frame}
-use Rattle.wire.specs.declared.values.Version.{Version}
+use Rattle.wire.specs.declared.{frame.Frame.Frame, values.Version.Version}
 use Rattle.wire.specs.declared.standing.Difference.{Difference}
 use Rattle.guarded.specs.Permitting.{permission_of}
+use Rattle.sealed.specs.ServerSeals as Calls
+use Rattle.sealed.specs.declared.callers.Caller.TheVariants as caller
+use Rattle.serving.specs.Turns as Turns
 
 -- what a guarded connection has between two turns
 pub record LockedConnectionOf : Type 0 where
@@ -116,8 +110,7 @@ pub record LetsIn (piece more : List ℕ) (old new : LockedConnectionOf) : Type 
   pub sends : KeepsSent old.called new.called
   pub stays : KeepsCaller old.called new.called
   pub talk : Turns.Receives more old.talk new.talk
-  pub output : new.output
-      ≡ greeting_if
+  pub output : new.output ≡ greeting_if
       (greets new.called.refusal (is_sealed old.called) (is_sealed new.called)) new.called.random
   pub fed : new.starved ≡ false
 
@@ -135,10 +128,8 @@ is_plain None = false
 
 -- the caller has a key of the desk
 abbrev pub has_key : Option Caller → Bool
-has_key (Some Anyone) = false
-has_key (Some Visitor) = false
 has_key (Some (caller.Holder key)) = true
-has_key None = false
+has_key _ = false
 
 -- the connection was served to here, and memory is refused for what is sent of its answer
 pub record Loses (served : Talk) (old new : LockedConnectionOf) : Type 0 where
@@ -184,10 +175,9 @@ within_at m talk = Turns.moment m.node m.peers talk
 abbrev pub Advances : {V U : Type 0} → DeskOf V → PeersOf U → Option Difference → Bool
     → Moment V U → Moment V U → Type 0
 Advances d p differs true a b =
-    IsFree a.guard × (served : Talk)
-    × Turns.Advances d p (permission_of a.guard.called.doors (caller_of a.guard.called)) differs
-    true (within_at a a.guard.talk) (within_at b served)
-    × Answers served a.guard b.guard
+    IsFree a.guard × (served : Talk) × Turns.Advances d p
+    (permission_of a.guard.called.doors (caller_of a.guard.called)) differs true
+    (within_at a a.guard.talk) (within_at b served) × Answers served a.guard b.guard
 Advances d p differs false a b = (b.node ≡ a.node) × (b.peers ≡ a.peers) × Rests a.guard b.guard
 
 -- ---- what is sent is taken

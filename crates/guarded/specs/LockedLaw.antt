@@ -3,32 +3,22 @@ use Rattle.std.specs.Prelude.{◌≡◌, ◌⊎◌, ℕ, Bool, true, false, List
 use Rattle.std.specs.Prelude.{None, Some, IsSome, IsTrue}
 use Rattle.std.specs.List.{AllByRecursion, flat_map}
 use Rattle.answers.specs.declared.desk.Desk.{Ghosts as DeskOf}
-use Rattle.seal.specs.Records.{AreBodies, preface_of, records}
-use Rattle.seal.specs.Streams.{joined}
+use Rattle.seal.specs.{Records.AreBodies, Records.preface_of, Records.records, Streams.joined}
 use Rattle.sealed.specs.Admitting.{Admits, comes_under}
-use Rattle.sealed.specs.ServerSeals.{caller_of}
-use Rattle.sealed.specs.declared.callers.Caller.{Caller}
+use Rattle.sealed.specs.{ServerSeals.caller_of, Fronts.IsShort, Sent.IsSent}
+use Rattle.sealed.specs.declared.callers.{Caller.Caller, DeskKeys.DeskKeys}
 use Rattle.sealed.specs.declared.callers.Caller.TheVariants.{Anyone, Visitor}
-use Rattle.sealed.specs.declared.callers.Caller.TheVariants as caller
-use Rattle.sealed.specs.declared.callers.Access.{Access}
-use Rattle.sealed.specs.declared.callers.Access.TheVariants.{Locked}
-use Rattle.sealed.specs.declared.callers.DeskKeys.{DeskKeys}
-use Rattle.sealed.specs.Fronts.{IsShort}
-use Rattle.sealed.specs.Sent.{IsSent}
+use Rattle.sealed.specs.declared.callers.Access.{Access, TheVariants.Locked}
 use Rattle.serving.specs.Connection.{Begun, asked, frames_of}
-use Rattle.serving.specs.Making.{Way, speaking}
-use Rattle.serving.specs.declared.request.Request.{Request}
-use Rattle.serving.specs.declared.request.Request.TheVariants.{Heard, Lagging, Learned, Entered}
-use Rattle.serving.specs.declared.request.Request.TheVariants.{Asked, Printed, Ticked, Stopped}
-use Rattle.serving.specs.declared.request.Request.TheVariants.{Inspected, Copied, Strange, Ignored}
-use Rattle.serving.specs.declared.request.Request.TheVariants.{Denied, Withheld}
+use Rattle.serving.specs.{Making.Way, Making.speaking, declared.request.Request.Request}
+use Rattle.serving.specs.declared.request.Request.TheVariants.{Heard, Lagging, Learned}
 use Rattle.serving.specs.TurnLaw.{AreServed, Began, Turn, begun_in, handed_out, received}
 use Rattle.store.specs.declared.home.Home.{Home}
-use Rattle.wire.specs.declared.values.Version.{Version}
-use Rattle.wire.specs.Spelling.{spelling}
+use Rattle.wire.specs.{declared.values.Version.Version, Spelling.spelling}
 use Rattle.guarded.specs.LockedConnections.{LockedConnectionOf, fresh_locked_connection}
 use Rattle.guarded.specs.LockedTurns.{Follow, Place, within}
 use Rattle.guarded.specs.Permitting.{permission_of}
+use Rattle.sealed.specs.declared.callers.Caller.TheVariants as caller
 
 -- ---- what is let in and served, and what is sent
 
@@ -95,17 +85,7 @@ abbrev pub delivers : Request → Bool
 delivers (Heard m) = true
 delivers (Lagging m) = true
 delivers (Learned run) = true
-delivers (Entered e) = false
-delivers (Asked id) = false
-delivers (Printed event round position style) = false
-delivers (Inspected differs) = false
-delivers (Copied position) = false
-delivers Ticked = false
-delivers Stopped = false
-delivers Strange = false
-delivers Ignored = false
-delivers Denied = false
-delivers Withheld = false
+delivers _ = false
 
 -- one of the hall's keys: its own, or the one that was its own until it is changed at each desk
 abbrev pub IsHallKey : DeskKeys → List ℕ → Type 0
@@ -114,8 +94,7 @@ IsHallKey locks key = (key ≡ locks.hall) ⊎ ((locks.old ≡ true) × (locks.e
 -- What came is a client's preface, records whose tags fit under one of the hall's keys, numbered
 -- from 0, and a rest; and in the bodies of these records is this frame, after those before it.
 pub record IsUnderHall (locks : DeskKeys) (server came : List ℕ) (earlier : List Begun)
-    (one : Begun)
-    : Type 0 where
+    (one : Begun) : Type 0 where
   pub key : List ℕ
   pub halls : IsHallKey locks key
   pub client : List ℕ
@@ -123,11 +102,9 @@ pub record IsUnderHall (locks : DeskKeys) (server came : List ℕ) (earlier : Li
   pub rest : List ℕ
   pub more : List ℕ
   pub sixteen : length client ≡ 16
-  pub whole : came
-      ≡ preface_of client ++ (records (comes_under client server key) 0 bodies ++ rest)
+  pub whole : came ≡ preface_of client ++ (records (comes_under client server key) 0 bodies ++ rest)
   pub each : AreBodies 0 bodies
-  pub inside : joined bodies
-      ≡ flat_map spelling (frames_of earlier) ++ (spelling one.frame ++ more)
+  pub inside : joined bodies ≡ flat_map spelling (frames_of earlier) ++ (spelling one.frame ++ more)
 
 -- At a desk with a key, each frame that delivers a message is in records that fit under one of the
 -- hall's keys, of what came before the frame was begun.

@@ -3,14 +3,12 @@
 use Rattle.std.specs.Prelude.{◌≡◌, List, [], ◌∷◌, ◌++◌, length}
 use Rattle.answers.specs.Seen.{Seen}
 use Rattle.sealed.specs.ServerSeals.{caller_of}
-use Rattle.serving.specs.Making.{Way, Outside}
-use Rattle.serving.specs.Turns.{Talk}
+use Rattle.serving.specs.{Making.Way, Making.Outside, Turns.Talk}
 use Rattle.serving.specs.TurnLaw.{Turn, Came, Began, Rested, Took}
-use Rattle.serving.specs.TurnLaw as TurnLaw
 use Rattle.guarded.specs.LockedConnections.{Answers, LockedConnectionOf, IsFree, Receives, Rests}
-use Rattle.guarded.specs.LockedConnections.{WantsRead}
-use Rattle.guarded.specs.LockedConnections.{after_sent}
+use Rattle.guarded.specs.LockedConnections.{WantsRead, after_sent}
 use Rattle.guarded.specs.Permitting.{permission_of}
+use Rattle.serving.specs.TurnLaw as TurnLaw
 
 -- a guarded connection, what is seen of the node that serves it, and what is there beside
 pub record Place {V : Type 0} (way : Way V) : Type 0 where
@@ -35,10 +33,9 @@ pub record IsQuiet {V : Type 0} {way : Way V} (a b : Place way) : Type 0 where
 abbrev pub Turns : {V : Type 0} → {way : Way V} → Turn → Place way → Place way → Type 0
 Turns (Came piece) a b = WantsRead a.guard × Receives piece a.guard b.guard × IsQuiet a b
 Turns (Began one) a b =
-    IsFree a.guard × (served : Talk)
-    × TurnLaw.Turns (Began one) (within a) (with_talk b served)
-    × (one.may ≡ permission_of a.guard.called.doors (caller_of a.guard.called))
-    × Answers served a.guard b.guard
+    IsFree a.guard × (served : Talk) × TurnLaw.Turns (Began one) (within a) (with_talk b served)
+    × (one.may ≡ permission_of a.guard.called.doors (caller_of a.guard.called)) × Answers served
+    a.guard b.guard
 Turns Rested a b = Rests a.guard b.guard × IsQuiet a b
 Turns (Took bytes) a b =
     (a.guard.output ≡ bytes ++ b.guard.output)

@@ -1,12 +1,10 @@
 -- What the caller may ask of a desk (the project's own).
 use Rattle.std.specs.Prelude.{Option, None, Some, if◌then◌else◌}
-use Rattle.sealed.specs.declared.callers.Caller.{Caller}
-use Rattle.sealed.specs.declared.callers.Caller.TheVariants.{Anyone, Visitor}
-use Rattle.sealed.specs.declared.callers.Caller.TheVariants as caller
-use Rattle.sealed.specs.declared.callers.Access.{Access}
-use Rattle.sealed.specs.declared.callers.Access.TheVariants.{Open, Locked}
+use Rattle.sealed.specs.declared.callers.Caller.{Caller, TheVariants.Anyone, TheVariants.Visitor}
+use Rattle.sealed.specs.declared.callers.Access.{Access, TheVariants.Open, TheVariants.Locked}
 use Rattle.sealed.specs.declared.callers.Holder.TheVariants.{Hall, Entry}
 use Rattle.serving.specs.declared.permission.Permission.{Permission}
+use Rattle.sealed.specs.declared.callers.Caller.TheVariants as caller
 use Rattle.serving.specs.declared.permission.Permission.TheVariants as permission
 
 -- under the second key: everything where it was the hall's, and else what clients ask, but for a

@@ -1,19 +1,15 @@
 //! A connection behind its door.
 
 ghost use Rattle.std.specs.Prelude.{◌≡◌, ◌≢◌, ◌≤◌, ◌↔◌, [], length, IfNone, IfOk, IfSome, IsTrue};
-ghost use Rattle.std.specs.Prelude.{None, Some};
-ghost use Rattle.std.specs.Bool.{OnFalse, OnTrue};
+ghost use Rattle.std.specs.{Prelude.None, Prelude.Some, Bool.OnFalse, Bool.OnTrue};
 ghost use Rattle.seal.specs.Records.{preface_of};
 ghost use Rattle.sealed.specs.ServerSeals.{Sends, caller_of};
 ghost use Rattle.wire.specs.Ranges.{IsDifference, IsFrame};
-ghost use Rattle.serving.specs.Differing.{first_frame};
-ghost use Rattle.guarded.specs.Permitting.{permission_of};
-ghost use Rattle.serving.specs.Turns.{after_sent as after_taken};
+ghost use Rattle.serving.specs.{Differing.first_frame, Turns.after_sent as after_taken};
+ghost use Rattle.guarded.specs.{Permitting.permission_of, LockedConnections.is_plain};
 ghost use Rattle.guarded.specs.LockedConnections.{Advances, HearsDesk, IsDear, IsDone, IsFree};
-ghost use Rattle.guarded.specs.LockedConnections.{IsOver};
-ghost use Rattle.guarded.specs.LockedConnections.{Receives, WantsRead, after_sent, begun};
-ghost use Rattle.guarded.specs.LockedConnections.{fresh_locked_connection};
-ghost use Rattle.guarded.specs.LockedConnections.{greets, has_key, is_plain, moment};
+ghost use Rattle.guarded.specs.LockedConnections.{IsOver, Receives, WantsRead, after_sent, begun};
+ghost use Rattle.guarded.specs.LockedConnections.{fresh_locked_connection, greets, has_key, moment};
 
 use crate::permitting::permission_of;
 use answers::Desk;
@@ -217,8 +213,7 @@ impl LockedConnection {
         ensures some { IfSome result (λ f.
             IsFree self.now × (first_frame self.now.talk.waiting ≡ Some f.now)) }
         ensures spelled { IfSome result (λ f. IsFrame f.now) }
-        ensures none { IfNone result
-            (IsFree self.now → first_frame self.now.talk.waiting ≡ None) }
+        ensures none { IfNone result (IsFree self.now → first_frame self.now.talk.waiting ≡ None) }
     {
         if self.is_free() {
             self.talk.next()

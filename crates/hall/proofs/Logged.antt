@@ -1,18 +1,13 @@
 -- The logs of a hall as they are written, entry after entry and desk after desk.
-use Rattle.std.proofs.Common.{◌≡◌, ℕ, ◌+◌, ◌-◌, ◌≤◌, suc, List, ◌++◌}
-use Rattle.std.proofs.Common.{flat_map, Option, Some, refl, sym, ap, ◌∙◌}
-use Rattle.std.proofs.Common.{append_assoc, subst, arith}
-use Rattle.std.specs.Prelude.{slice_get}
-use Rattle.std.specs.List.{range_with_len}
-use Rattle.std.specs.Io.KnownBytes.{Appends}
+use Rattle.std.proofs.Common.{◌≡◌, ℕ, ◌+◌, ◌-◌, ◌≤◌, suc, List, ◌++◌, flat_map, Option, Some, refl}
+use Rattle.std.proofs.Common.{sym, ap, ◌∙◌, append_assoc, subst, arith}
+use Rattle.std.specs.{Prelude.slice_get, List.range_with_len, Io.KnownBytes.Appends}
 use Rattle.std.proofs.KnownBytes.{Appends-trans}
 use Rattle.acceptor.specs.declared.entry.Entry.{Entry}
-use Rattle.learner.specs.declared.event.WorldEvent.{WorldEvent}
-use Rattle.learner.specs.Worlds.{log_of}
+use Rattle.learner.specs.{declared.event.WorldEvent.WorldEvent, Worlds.log_of}
 use Rattle.lines.specs.Bytes.{Writes, AppendsPart}
 use Rattle.lines.proofs.Inputs.{part_front, part_after, waits_more, part_out}
-use Rattle.hall.specs.Texts.{entry_text, log_text}
-use Rattle.hall.specs.Halls.{logs_text}
+use Rattle.hall.specs.{Texts.entry_text, Texts.log_text, Halls.logs_text}
 use Rattle.hall.proofs.Printed.{entries_text, entries_next}
 
 -- ---- one log
@@ -33,8 +28,7 @@ pub log_more : (d : ℕ) (entries : List Entry) (pos : ℕ) (x : Entry)
 log_more d entries pos x old mid new out out' out'' a is said w =
     let text : a.text ++ entry_text d pos x ≡ a.front ++ out' =
     ap (λ t. t ++ entry_text d pos x) a.written.parts
-    ∙ append_assoc a.front out (entry_text d pos x)
-    ∙ ap (λ t. a.front ++ t) (sym said) in
+    ∙ append_assoc a.front out (entry_text d pos x) ∙ ap (λ t. a.front ++ t) (sym said) in
     record {
       text = a.text ++ entry_text d pos x;
       front = a.front ++ w.0;
@@ -43,8 +37,7 @@ log_more d entries pos x old mid new out out' out'' a is said w =
           a.written.written w.1;
       whole =
           append_assoc a.text (entry_text d pos x) (entries_text d (pos + 1) entries)
-          ∙ ap (λ t. a.text ++ t) (sym (entries_next d pos entries x is))
-          ∙ a.whole;
+          ∙ ap (λ t. a.text ++ t) (sym (entries_next d pos entries x is)) ∙ a.whole;
     }
 
 -- a part of what is printed so far is a part of the log's text
@@ -57,8 +50,7 @@ log_part d entries pos old mid new out a part =
 
 -- what waits was not written whole
 pub log_unwritten : (d : ℕ) (entries : List Entry) (pos : ℕ) (old mid new : Option (List ℕ))
-    (out : List ℕ)
-    → Logged d entries pos old mid out → AppendsPart mid new out
+    (out : List ℕ) → Logged d entries pos old mid out → AppendsPart mid new out
     → AppendsPart old new (log_text d entries)
 log_unwritten d entries pos old mid new out a part =
     log_part d entries pos old mid new out a
@@ -68,8 +60,7 @@ log_unwritten d entries pos old mid new out a part =
 
 -- the logs from desk d on
 abbrev pub logs_from : ℕ → List WorldEvent → ℕ → List ℕ
-logs_from n events d =
-    flat_map (λ d. log_text d (log_of n events d)) (range_with_len d (n + 1 - d))
+logs_from n events d = flat_map (λ d. log_text d (log_of n events d)) (range_with_len d (n + 1 - d))
 
 -- the logs of the desks in front of desk d were written
 pub record Logs (n : ℕ) (events : List WorldEvent) (d : ℕ) (old new : Option (List ℕ)) : Type 0
@@ -92,8 +83,7 @@ logs_more n events d old mid new a there next = record {
   written = Appends-trans old mid new a.text (log_text d (log_of n events d)) a.written next;
   whole =
       append_assoc a.text (log_text d (log_of n events d)) (logs_from n events (d + 1))
-      ∙ ap (λ t. a.text ++ t) (sym (logs_next n events d there))
-      ∙ a.whole;
+      ∙ ap (λ t. a.text ++ t) (sym (logs_next n events d there)) ∙ a.whole;
 }
 
 -- the log of a desk was not written whole
@@ -103,7 +93,6 @@ pub logs_cut : (n : ℕ) (events : List WorldEvent) (d : ℕ) (old mid new : Opt
 logs_cut n events d old mid new a there part =
     subst (AppendsPart old new)
     (append_assoc a.text (log_text d (log_of n events d)) (logs_from n events (d + 1))
-    ∙ ap (λ t. a.text ++ t) (sym (logs_next n events d there))
-    ∙ a.whole)
+    ∙ ap (λ t. a.text ++ t) (sym (logs_next n events d there)) ∙ a.whole)
     (part_front old new (a.text ++ log_text d (log_of n events d)) (logs_from n events (d + 1))
     (part_after old mid new a.text (log_text d (log_of n events d)) a.written part))

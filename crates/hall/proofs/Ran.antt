@@ -1,27 +1,24 @@
 -- A hall from line to line, and how it ends, in words on the whole input.
 use Rattle.std.proofs.Common.{◌≡◌, ℕ, ◌+◌, Bool, true, false, ◌≤◌, List, [], ◌∷◌, ◌++◌, length, map}
-use Rattle.std.proofs.Common.{eqb-true, append-nil, Option, None, inl, inr, refl, sym, ap, ◌∙◌}
-use Rattle.std.proofs.Common.{append_assoc, length-append, subst}
+use Rattle.std.proofs.Common.{eqb-true, append-nil, Option, inl, inr, refl, sym, ap, ◌∙◌, subst}
+use Rattle.std.{proofs.Common.append_assoc, specs.Io.KnownBytes.Appends}
+use Rattle.std.proofs.{Common.length-append, KnownBytes.Appends-trans, KnownBytes.Appends-nil}
 use Rattle.std.specs.Prelude.{Result, Ok, Err, OnOk, OnErr, IfErr}
-use Rattle.std.proofs.KnownBytes.{Appends-trans, Appends-nil}
-use Rattle.std.specs.Io.KnownBytes.{Appends}
 use Rattle.hall.specs.world.WorldValues.{WorldValue, extended}
 use Rattle.lines.specs.Bytes.{Writes, AppendsPart, HasLeft}
-use Rattle.lines.specs.Lines.{lines_of, lines_read}
+use Rattle.lines.specs.{Lines.lines_of, Lines.lines_read, declared.fault.RunFault.RunFault}
 use Rattle.lines.specs.Reading.{Reading, nothing_read, HasGiven, GivesLine, GivesFault, Gives}
-use Rattle.lines.specs.declared.fault.RunFault.{RunFault}
-use Rattle.lines.specs.declared.fault.RunFault.TheVariants as fault
-use Rattle.lines.proofs.Inputs.{given_of, left_of, left_is, has_read, has_all, part_front}
-use Rattle.lines.proofs.Inputs.{part_after, nothing_written, whole_written, waits_more, all_out}
-use Rattle.lines.proofs.Inputs.{part_out, still_waits, lines_above}
+use Rattle.lines.proofs.Inputs.{given_of, left_of, left_is, has_read, part_front, part_after}
+use Rattle.lines.proofs.Inputs.{nothing_written, whole_written, waits_more, all_out, part_out}
+use Rattle.lines.proofs.Inputs.{still_waits, lines_above}
 use Rattle.hall.specs.Scripts.{SpellsNone, HasEvents, spelling}
-use Rattle.hall.specs.Halls.{event_text, script_text, logs_text, Run, Runs, WritesPart, RunFails}
-use Rattle.hall.specs.model.Events.{events_of, are_events}
+use Rattle.hall.specs.Halls.{event_text, logs_text, Run, Runs, WritesPart, RunFails}
+use Rattle.hall.{specs.model.Events.events_of, proofs.Scripted.is_hall_text}
 use Rattle.hall.specs.model.Running.{lines_text, hall_text, DoesLine, LeavesLine, HandlesLine}
 use Rattle.hall.specs.model.Running.{DoesAll, StopsAmong, EndsBy, IsStopped}
-use Rattle.hall.proofs.Spelled.{spelled_found, all_spelled}
-use Rattle.hall.proofs.Scripted.{AreGood, good_is, events_more, good_more, script_more}
-use Rattle.hall.proofs.Scripted.{script_begins, is_hall_text, text_whole, reads_all}
+use Rattle.hall.proofs.{Spelled.spelled_found, Spelled.all_spelled, Scripted.text_whole}
+use Rattle.hall.proofs.Scripted.{AreGood, events_more, good_more, script_more, script_begins}
+use Rattle.lines.specs.declared.fault.RunFault.TheVariants as fault
 
 -- ---- one line after the other
 
@@ -51,8 +48,7 @@ begins n world out start old small is none read = record {
 pub one_more : (n : ℕ) (p q : Reading) (world world' : WorldValue)
     (line given out out' out'' : List ℕ) (start before now old new new' : Option (List ℕ))
     → Ran n p world out given start before old new → (g : GivesLine q line given start now)
-    → DoesLine n line world world' out out'
-    → (front : List ℕ) × Writes new new' out' front out''
+    → DoesLine n line world world' out out' → (front : List ℕ) × Writes new new' out' front out''
     → Ran n q world' out'' (given ++ g.more) start now old new'
 one_more n p q world world' line given out out' out'' start before now old new new' a g d w =
     let lines : List (List ℕ) = lines_of given in
@@ -60,8 +56,7 @@ one_more n p q world world' line given out out' out'' start before now old new n
     let events : events_of n (lines_of (given ++ g.more)) ≡ events_of n lines ++ d.event ∷ [] =
     ap (events_of n) g.is ∙ events_more n lines line d.event a.good spelled in
     let text : lines_text n (lines_of (given ++ g.more)) ≡ a.front ++ out' =
-    ap (lines_text n) g.is
-    ∙ script_more n lines line d.event a.good spelled
+    ap (lines_text n) g.is ∙ script_more n lines line d.event a.good spelled
     ∙ ap (λ x. x ++ event_text n (events_of n lines) d.event) a.written.parts
     ∙ append_assoc a.front out (event_text n (events_of n lines) d.event)
     ∙ ap (λ (v : WorldValue). a.front ++ (out ++ event_text n v.events d.event)) (sym a.world_is)
@@ -85,14 +80,12 @@ gives_true true p line given start now is h = h
 gives_true false p line given start now is h = cc
 
 pub does_it : (t : Bool) (n : ℕ) (line : List ℕ) (old new : WorldValue) (before after : List ℕ)
-    → t ≡ true → HandlesLine t n line old new before after
-    → DoesLine n line old new before after
+    → t ≡ true → HandlesLine t n line old new before after → DoesLine n line old new before after
 does_it true n line old new before after is h = h
 does_it false n line old new before after is h = cc
 
 pub leaves_it : (t : Bool) (n : ℕ) (line : List ℕ) (old new : WorldValue) (before after : List ℕ)
-    → t ≡ false → HandlesLine t n line old new before after
-    → LeavesLine n line old new before after
+    → t ≡ false → HandlesLine t n line old new before after → LeavesLine n line old new before after
 leaves_it false n line old new before after is h = h
 leaves_it true n line old new before after is h = cc
 
@@ -120,31 +113,6 @@ part_of_whole n p given start now old new h good part =
     (part_front old new (lines_text n (lines_of given)) more.0 part) in
     (input.0, input.1, part_front old new (lines_text n (lines_read input.0)) _ all)
 
--- all events were done
-pub does_all : (n : ℕ) (p : Reading) (world : WorldValue) (out given : List ℕ)
-    (start now old before new : Option (List ℕ))
-    → Ran n p world out given start now old before → p.over ≡ true → Appends before new out
-    → (input : List ℕ) × HasLeft start input × DoesAll n world input now old new
-does_all n p world out given start now old before new a over last =
-    let all = has_all p given start now a.read over in
-    let lines = sym (reads_all given a.read.within) in (
-      given,
-      all.0,
-      record {
-        end = all.1;
-        within = a.read.within;
-        good =
-            subst (λ ls. are_events n ls ≡ true) lines (good_is n (lines_of given) a.good);
-        world_is =
-            a.world_is
-            ∙ ap (λ ls. let v : WorldValue = record { desks = n; events = events_of n ls } in v)
-            lines;
-        written =
-            subst (λ ls. Appends old new (lines_text n ls)) lines
-            (all_out old before new (lines_text n (lines_of given)) a.front out a.written last);
-      },
-    )
-
 -- the rest of what waits was not written whole
 pub unwritten : (n : ℕ) (p : Reading) (world : WorldValue) (out given : List ℕ)
     (start now old before new : Option (List ℕ))
@@ -156,8 +124,7 @@ unwritten n p world out given start now old before new a part =
 
 -- memory ran out, and what waits was not written
 pub forgotten : (n : ℕ) (p : Reading) (world : WorldValue) (out given : List ℕ)
-    (start now old new : Option (List ℕ))
-    → Ran n p world out given start now old new
+    (start now old new : Option (List ℕ)) → Ran n p world out given start now old new
     → (input : List ℕ) × HasLeft start input × AppendsPart old new (hall_text n input)
 forgotten n p world out given start now old new a =
     part_of_whole n p given start now old new a.read a.good
@@ -181,18 +148,14 @@ meets_bad n p q world line given out start before now old between new a g none l
         others = input.2.0;
         spelled = record {
           parts =
-              input.2.1
-              ∙ ap (λ ls. ls ++ input.2.0) g.is
-              ∙ append_assoc lines (line ∷ []) input.2.0
+              input.2.1 ∙ ap (λ ls. ls ++ input.2.0) g.is ∙ append_assoc lines (line ∷ []) input.2.0
               ∙ ap (λ ls. ls ++ line ∷ input.2.0)
               (all.parts ∙ append-nil (map spelling (events_of n lines)));
           fit = all.fit;
           ends = none;
         };
         is = g.read.lines
-            ∙ ap length g.is
-            ∙ length-append lines (line ∷ [])
-            ∙ ap (λ k. k + 1) (sym a.good);
+            ∙ ap length g.is ∙ length-append lines (line ∷ []) ∙ ap (λ k. k + 1) (sym a.good);
         written = all_out old between new (lines_text n lines) a.front out a.written last;
       },
     )
@@ -236,9 +199,7 @@ stops n fault.NoMemory p world out given start before now old between new a f la
     part_of_whole n p given start before old new a.read a.good
     (whole_written old new (lines_text n (lines_of given))
     (all_out old between new (lines_text n (lines_of given)) a.front out a.written last))
-stops n fault.Write p world out given start before now old between new a f last = absurd f
-stops n fault.BadCount p world out given start before now old between new a f last = absurd f
-stops n (fault.BadLine k) p world out given start before now old between new a f last = absurd f
+stops n _ p world out given start before now old between new a f last = absurd f
 
 -- what waited was written after a fault, or a write failed
 pub ended : (n : ℕ) (result e : RunFault) (p : Reading) (world : WorldValue)
@@ -260,8 +221,7 @@ pub ended_bad : (n : ℕ) (result : RunFault) (p q : Reading) (k : ℕ) (world w
     → EndsBy result (fault.BadLine k) between new out' → Stops n result start now old new
 ended_bad n result p q k world world' line given out out' start before now old between new a g l
     count (inl h) =
-    subst (λ x. Stops n x start now old new)
-    (ap fault.BadLine (sym count) ∙ sym h.0)
+    subst (λ x. Stops n x start now old new) (ap fault.BadLine (sym count) ∙ sym h.0)
     (meets_bad n p q world line given out start before now old between new a g l.bad
     (subst (Appends between new) l.said h.1))
 ended_bad n result p q k world world' line given out out' start before now old between new a g l
@@ -282,12 +242,10 @@ writes_part n input left old new small part =
 pub fails_among : (e : RunFault) (n : ℕ) (input : List ℕ) (left old new : Option (List ℕ))
     → n ≤ 255 → StopsAmong e (run_of n input left old new)
     → RunFails e (run_of n input left old new)
-fails_among fault.InputTooLong n input left old new small s = s
-fails_among (fault.BadLine line) n input left old new small s = s
-fails_among fault.Read n input left old new small s = s
 fails_among fault.Write n input left old new small s = writes_part n input left old new small s
 fails_among fault.NoMemory n input left old new small s = writes_part n input left old new small s
 fails_among fault.BadCount n input left old new small s = absurd s
+fails_among _ n input left old new small s = s
 
 -- the logs were written after the rest
 pub runs : (n : ℕ) (world : WorldValue) (input : List ℕ) (left old mid new : Option (List ℕ))
@@ -346,8 +304,7 @@ fails_at_once n start old small = (
       (nothing_written old (hall_text n (left_of start))),
 )
 
-pub is_untouched : (n : ℕ) (start old : Option (List ℕ))
-    → (input : List ℕ) × HasLeft start input
+pub is_untouched : (n : ℕ) (start old : Option (List ℕ)) → (input : List ℕ) × HasLeft start input
     × RunFails fault.BadCount (run_of n input start old old)
 is_untouched n start old =
     (left_of start, left_is start, record { left = left_is start; same = refl })

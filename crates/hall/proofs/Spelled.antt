@@ -2,20 +2,16 @@
 use Rattle.std.proofs.Common.{◌≡◌, ℕ, ◌+◌, ◌<◌, ◌≤◌, ◌^◌, zero, suc, Bool, true, false, ◌==◌, cond}
 use Rattle.std.proofs.Common.{nat_le, List, [], ◌∷◌, ◌++◌, length, codes, decimal, bytes_eq, map}
 use Rattle.std.proofs.Common.{Option, Some, None, Result, Ok, Err, refl, sym, ap, ◌∙◌, subst, arith}
-use Rattle.std.proofs.Common.{append_assoc, append-nil, length-append}
-use Rattle.std.proofs.lemmas.List.{append_cancel_left, length-map}
-use Rattle.std.specs.Prelude.{IfOk, OnErr}
-use Rattle.std.specs.Option.{option_map, option_and_then}
-use Rattle.std.proofs.lemmas.Bool.Decides.{nat_tests}
-use Rattle.acceptor.specs.Entries.{EntryValue, IsId, IsText}
-use Rattle.learner.specs.declared.event.WorldEvent.{WorldEvent}
-use Rattle.learner.specs.declared.event.WorldEvent.TheVariants.{Submit, Start, Tick, Deliver}
-use Rattle.learner.specs.declared.event.WorldEvent.TheVariants.{Restart}
+use Rattle.std.proofs.Common.{append_assoc, length-append}
+use Rattle.std.proofs.lemmas.{List.append_cancel_left, List.length-map, Bool.Decides.nat_tests}
+use Rattle.std.specs.{Prelude.IfOk, Prelude.OnErr, Option.option_map}
+use Rattle.acceptor.specs.Entries.{EntryValue}
+use Rattle.learner.specs.declared.event.WorldEvent.{WorldEvent, TheVariants.Deliver}
+use Rattle.learner.specs.declared.event.WorldEvent.TheVariants.{Restart, Submit, Start, Tick}
 use Rattle.learner.specs.Steps.{IsDesk}
-use Rattle.texts.specs.Spelling.{IsWithin}
+use Rattle.texts.{specs.Spelling.IsWithin, proofs.Spelled.bytes_eq-equal}
 use Rattle.texts.specs.Fields.{cut, number_between}
 use Rattle.texts.proofs.Cuts.{behind, cut_spelled, cut-behind, lacks}
-use Rattle.texts.proofs.Spelled.{bytes_eq-equal}
 use Rattle.texts.proofs.FieldSpellings.{number_spelled, decimal_no_space}
 use Rattle.hall.specs.Scripts.{most_delivered, spelling, IsFit, AreFit, Spells, SpellsNone, IsRead}
 use Rattle.hall.specs.Scripts.{SpellsSubmit, EndsScript, HasEvents}
@@ -29,8 +25,7 @@ abbrev SpellsBehind : ℕ → List ℕ → Option (List ℕ) → WorldEvent → 
 SpellsBehind n word left e = Spells n (word ++ behind 32 left) e
 
 number_only : (n most : ℕ) (event : ℕ → WorldEvent) (word : List ℕ) (left : Option (List ℕ))
-    (e : WorldEvent)
-    → most < 10000000000000000000
+    (e : WorldEvent) → most < 10000000000000000000
     → ((k : ℕ) → IsWithin 1 most k → Spells n (word ++ 32 ∷ decimal k) (event k))
     → number_of most event left ≡ Some e → SpellsBehind n word left e
 number_only n most event word None e small each h = absurd (let bad : None ≡ Some e = h in cc)
@@ -46,8 +41,7 @@ number_only n most event word (Some bytes) e small each h =
         subst (λ (y : List ℕ). Spells n (word ++ 32 ∷ y) e) (sym read.1)
         (subst (λ (f : WorldEvent). Spells n (word ++ 32 ∷ decimal k) f) same (each k read.0))
 
-submit_is : (d : ℕ) (e : EntryValue)
-    → spelling (Submit d e)
+submit_is : (d : ℕ) (e : EntryValue) → spelling (Submit d e)
     ≡ codes "submit" ++ 32 ∷ (decimal d ++ 32 ∷ (decimal e.id ++ 32 ∷ e.text))
 submit_is d e =
     ap (λ x. codes "submit " ++ x)
@@ -64,8 +58,7 @@ entry_only n d id text e desk range h = step (nat_le (length text) 600) refl h
   where
     step : (b : Bool) → nat_le (length text) 600 ≡ b
         → (cond b (Some (record { id = id; text = text })) None
-        >>= (λ entry. Some (Submit d entry)))
-        ≡ Some e
+        >>= (λ entry. Some (Submit d entry))) ≡ Some e
         → Spells n (codes "submit" ++ 32 ∷ (decimal d ++ 32 ∷ (decimal id ++ 32 ∷ text))) e
     step false is x = absurd (let bad : None ≡ Some e = x in cc)
     step true is x =
@@ -73,8 +66,7 @@ entry_only n d id text e desk range h = step (nat_le (length text) 600) refl h
         let same : Submit d entry ≡ e = cc in
         let short : length text ≤ 600 = grind (arith, nat_tests, is) in
         let below : id < 2 ^ 63 = let r = range.1 in omega arith in
-        subst
-        (λ (f : WorldEvent).
+        subst (λ (f : WorldEvent).
         Spells n (codes "submit" ++ 32 ∷ (decimal d ++ 32 ∷ (decimal id ++ 32 ∷ text))) f) same
         ((desk, (range.0, below), short), sym (submit_is d entry))
 
@@ -96,12 +88,10 @@ submit_only n (Some fields) e small h =
     let next =
     (number_spelled 1 9223372036854775807 (omega arith)).only (cut 32 more.0).0 id.0 id.1 in
     let behind_id : more.0 ≡ decimal id.0 ++ 32 ∷ text.0 =
-    cut_spelled 32 more.0
-    ∙ ap (λ x. x ++ behind 32 (cut 32 more.0).1) next.1
+    cut_spelled 32 more.0 ∙ ap (λ x. x ++ behind 32 (cut 32 more.0).1) next.1
     ∙ ap (λ o. decimal id.0 ++ behind 32 o) text.1 in
     let all : fields ≡ decimal desk.0 ++ 32 ∷ (decimal id.0 ++ 32 ∷ text.0) =
-    cut_spelled 32 fields
-    ∙ ap (λ x. x ++ behind 32 (cut 32 fields).1) first.1
+    cut_spelled 32 fields ∙ ap (λ x. x ++ behind 32 (cut 32 fields).1) first.1
     ∙ ap (λ o. decimal desk.0 ++ behind 32 o) more.1
     ∙ ap (λ x. decimal desk.0 ++ 32 ∷ x) behind_id in
     subst (λ (x : List ℕ). Spells n (codes "submit" ++ 32 ∷ x) e) (sym all)
@@ -129,8 +119,7 @@ by_word_only n text e small =
     (λ left. number_only n n Start (codes "start") left e (omega arith) (λ k r. (r, refl)))
     (word_only n (codes "tick") (number_of n Tick) _ text e _ refl
     (λ left. number_only n n Tick (codes "tick") left e (omega arith) (λ k r. (r, refl)))
-    (word_only n (codes "deliver") (number_of most_delivered Deliver) _ text e _ refl
-    (λ left.
+    (word_only n (codes "deliver") (number_of most_delivered Deliver) _ text e _ refl (λ left.
     number_only n most_delivered Deliver (codes "deliver") left e (omega arith) (λ k r. (r, refl)))
     (word_only n (codes "restart") (number_of n Restart) None text e _ refl
     (λ left. number_only n n Restart (codes "restart") left e (omega arith) (λ k r. (r, refl)))
@@ -160,12 +149,9 @@ unfolding submit_of
 submit_found n d e small fits =
     let below : e.id ≤ 9223372036854775807 = let r = fits.1.1 in omega arith in
     let short : nat_le (length e.text) 600 ≡ true = let r = fits.2 in grind (arith, nat_tests) in
-    rw
-    (cut-behind 32 (decimal d) (Some (decimal e.id ++ 32 ∷ e.text))
-    (decimal_no_space d (omega arith)))
-    (rw ((number_spelled 1 n (omega arith)).found d fits.0)
-    (rw (cut-behind 32 (decimal e.id) (Some e.text) (decimal_no_space e.id (omega arith)))
-    (rw
+    rw (cut-behind 32 (decimal d) (Some (decimal e.id ++ 32 ∷ e.text))
+    (decimal_no_space d (omega arith))) (rw ((number_spelled 1 n (omega arith)).found d fits.0)
+    (rw (cut-behind 32 (decimal e.id) (Some e.text) (decimal_no_space e.id (omega arith))) (rw
     ((number_spelled 1 9223372036854775807 (omega arith)).found e.id (fits.1.0, below))
     (rw short refl))))
 
@@ -211,8 +197,7 @@ none_spelled n line small is e s =
 pub is_read : (n : ℕ) (line : List ℕ) (parts : List ℕ × Option (List ℕ)) (o : Option WorldEvent)
     → n ≤ 255 → parts ≡ cut 32 line → o ≡ by_word n parts → IsRead n line o
 unfolding event_of
-is_read n line parts None small cuts is =
-    none_spelled n line small (sym (is ∙ ap (by_word n) cuts))
+is_read n line parts None small cuts is = none_spelled n line small (sym (is ∙ ap (by_word n) cuts))
 is_read n line parts (Some e) small cuts is =
     event_only n line e small (sym (is ∙ ap (by_word n) cuts))
 
@@ -254,15 +239,13 @@ script_found n (e ∷ es) others small fit ends =
     ap (λ o. before o (events_of n (map spelling es ++ others))) (event_found n e small fit.0)
     ∙ ap (λ rest. e ∷ rest) (script_found n es others small fit.1 ends)
 
-pub script_alone : (n : ℕ) (lines : List (List ℕ)) (es : List WorldEvent)
-    (others : List (List ℕ))
+pub script_alone : (n : ℕ) (lines : List (List ℕ)) (es : List WorldEvent) (others : List (List ℕ))
     → n ≤ 255 → HasEvents n lines es others → events_of n lines ≡ es
 script_alone n lines es others small h =
     ap (events_of n) h.parts ∙ script_found n es others small h.fit h.ends
 
 pub script_once : (n : ℕ) (lines : List (List ℕ)) (ds es : List WorldEvent)
-    (left rest : List (List ℕ))
-    → n ≤ 255 → HasEvents n lines ds left → HasEvents n lines es rest
+    (left rest : List (List ℕ)) → n ≤ 255 → HasEvents n lines ds left → HasEvents n lines es rest
     → (ds ≡ es) × (left ≡ rest)
 script_once n lines ds es left rest small a b =
     let same : ds ≡ es =
@@ -295,8 +278,7 @@ script_of n (line ∷ lines) small = step (event_of n line) refl (script_of n li
         )
 
 -- this many lines are left
-pub script_length : (n : ℕ) (lines : List (List ℕ)) (es : List WorldEvent)
-    (others : List (List ℕ))
+pub script_length : (n : ℕ) (lines : List (List ℕ)) (es : List WorldEvent) (others : List (List ℕ))
     → HasEvents n lines es others → length lines ≡ length es + length others
 script_length n lines es others h =
     ap length h.parts ∙ length-append (map spelling es) others
@@ -328,5 +310,4 @@ all_spelled n lines small good =
     step : (others : List (List ℕ)) → HasEvents n lines (events_of n lines) others
         → length others ≡ 0 → HasEvents n lines (events_of n lines) []
     step [] h none = h
-    step (line ∷ others) h none =
-        absurd (let bad : suc (length others) ≡ 0 = none in cc)
+    step (line ∷ others) h none = absurd (let bad : suc (length others) ≡ 0 = none in cc)

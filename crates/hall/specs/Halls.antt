@@ -1,17 +1,13 @@
 -- What a hall of desks writes for its script, and how it ends (the project's own).
 use Rattle.std.specs.Prelude.{◌≡◌, ℕ, ◌+◌, true, false, ◌==◌, ◌&&◌, if◌then◌else◌, List, [], ◌∷◌}
 use Rattle.std.specs.Prelude.{◌++◌, length, flat_map, Option}
-use Rattle.std.specs.List.{range_with_len}
-use Rattle.std.specs.Io.KnownBytes.{Appends, IsAtEnd}
-use Rattle.learner.specs.declared.event.WorldEvent.{WorldEvent}
-use Rattle.learner.specs.Worlds.{after, log_of}
-use Rattle.hall.specs.world.WorldValues.{last_fault}
-use Rattle.lines.specs.Lines.{whole_lines, is_within, lines_read}
-use Rattle.lines.specs.Bytes.{HasLeft, AppendsPart, Sides}
-use Rattle.lines.specs.declared.fault.RunFault.{RunFault}
-use Rattle.lines.specs.declared.fault.RunFault.TheVariants as fault
-use Rattle.hall.specs.Scripts.{HasEvents}
+use Rattle.std.specs.{List.range_with_len, Io.KnownBytes.Appends, Io.KnownBytes.IsAtEnd}
+use Rattle.learner.specs.{declared.event.WorldEvent.WorldEvent, Worlds.after, Worlds.log_of}
+use Rattle.hall.specs.{world.WorldValues.last_fault, Scripts.HasEvents}
+use Rattle.lines.specs.{Lines.whole_lines, Lines.is_within, Lines.lines_read, Bytes.Sides}
+use Rattle.lines.specs.{Bytes.HasLeft, Bytes.AppendsPart, declared.fault.RunFault.RunFault}
 use Rattle.hall.specs.Texts.{messages_text, refusal_text, log_text}
+use Rattle.lines.specs.declared.fault.RunFault.TheVariants as fault
 
 -- what is printed for an event after others, at n desks: the messages that it makes the desks
 -- send, or its refusal; line i has the i-th event
@@ -40,8 +36,7 @@ pub record IsHallText (n : ℕ) (input text : List ℕ) : Type 0 where
   pub events : List WorldEvent
   pub others : List (List ℕ)
   pub spelled : HasEvents n (lines_read input) events others
-  pub is : text
-      ≡ script_text n events
+  pub is : text ≡ script_text n events
       ++ (if is_within input && length others == 0 then logs_text n events else [])
 
 -- a run of n desks: the input, what the reader has left, and what the writer had and has

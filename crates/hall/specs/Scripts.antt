@@ -3,9 +3,8 @@
 use Rattle.std.specs.Prelude.{◌≡◌, ◌≤◌, ℕ, List, ◌∷◌, [], ◌++◌, map, codes, decimal, Option, None}
 use Rattle.std.specs.Prelude.{Some}
 use Rattle.acceptor.specs.Entries.{EntryValue, IsId, IsText}
-use Rattle.learner.specs.declared.event.WorldEvent.{WorldEvent}
+use Rattle.learner.specs.declared.event.WorldEvent.{WorldEvent, TheVariants.Restart}
 use Rattle.learner.specs.declared.event.WorldEvent.TheVariants.{Submit, Start, Tick, Deliver}
-use Rattle.learner.specs.declared.event.WorldEvent.TheVariants.{Restart}
 use Rattle.learner.specs.Steps.{IsDesk}
 
 -- an event: its word, and its fields in decimal, parted by one space each; a text is all that
@@ -70,8 +69,7 @@ pub record HasEvents (n : ℕ) (lines : List (List ℕ)) (events : List WorldEve
 
 abbrev pub SpellsOneEvent : Type 0
 SpellsOneEvent =
-    (n : ℕ) (line : List ℕ) (d e : WorldEvent) → n ≤ 255 → Spells n line d → Spells n line e
-    → d ≡ e
+    (n : ℕ) (line : List ℕ) (d e : WorldEvent) → n ≤ 255 → Spells n line d → Spells n line e → d ≡ e
 
 abbrev pub HasOneScript : Type 0
 HasOneScript =

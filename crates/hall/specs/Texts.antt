@@ -1,19 +1,13 @@
 -- What is printed of a hall: a line for each message, for each refusal, and for each entry of a log
 -- (the project's own).
 use Rattle.std.specs.Prelude.{ℕ, ◌+◌, List, [], ◌++◌, drop, flat_map, codes, decimal, Option, None}
-use Rattle.std.specs.Prelude.{Some}
-use Rattle.std.specs.List.{enumerate_from}
-use Rattle.acceptor.specs.declared.ballot.Ballot.{Ballot}
-use Rattle.acceptor.specs.declared.entry.Entry.{Entry}
-use Rattle.acceptor.specs.declared.message.Report.{Report}
-use Rattle.acceptor.specs.declared.message.Body.{Body}
+use Rattle.std.specs.{Prelude.Some, List.enumerate_from}
+use Rattle.acceptor.specs.declared.{ballot.Ballot.Ballot, entry.Entry.Entry}
+use Rattle.acceptor.specs.declared.message.{Report.Report, Body.Body, Message.Message}
 use Rattle.acceptor.specs.declared.message.Body.TheVariants.{Prepare, Promise, Accept, Accepted}
 use Rattle.acceptor.specs.declared.message.Body.TheVariants.{Nack, Behind, Decided}
-use Rattle.acceptor.specs.declared.message.Message.{Message}
-use Rattle.replica.specs.declared.roles.fault.NodeFault.{NodeFault}
-use Rattle.replica.specs.declared.roles.fault.NodeFault.TheVariants.{Busy, LogFull, BallotsSpent}
-use Rattle.replica.specs.declared.roles.fault.NodeFault.TheVariants.{NoMemory}
-use Rattle.replica.specs.declared.roles.fault.NodeFault.TheVariants.{Down}
+use Rattle.replica.specs.declared.roles.fault.NodeFault.{NodeFault, TheVariants.BallotsSpent}
+use Rattle.replica.specs.declared.roles.fault.NodeFault.TheVariants.{Busy, LogFull, NoMemory, Down}
 
 -- a number as a field: a space and the number in decimal
 abbrev pub number_field : ℕ → List ℕ

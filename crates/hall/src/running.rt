@@ -1,12 +1,10 @@
 //! A script run from line to line, and the logs after it.
 
 ghost use Rattle.std.specs.Prelude.{◌≡◌, ◌⊎◌, ◌↔◌, ◌+◌, ◌++◌, ◌∷◌, [], IfOk, OnOk, OnErr, IfErr};
-ghost use Rattle.std.specs.Prelude.{IsErrOf};
+ghost use Rattle.std.specs.{Prelude.IsErrOf, Io.KnownBytes.Appends};
 ghost use Rattle.learner.specs.declared.event.WorldEvent.{WorldEvent};
 ghost use Rattle.lines.specs.Bytes.{AppendsPart, sides};
-ghost use Rattle.std.specs.Io.KnownBytes.{Appends};
-ghost use Rattle.hall.specs.world.WorldValues.{extended};
-ghost use Rattle.hall.specs.Texts.{log_text};
+ghost use Rattle.hall.specs.{world.WorldValues.extended, Texts.log_text};
 ghost use Rattle.hall.specs.Halls.{event_text, logs_text, RunsAll, RunsPart};
 ghost use Rattle.hall.specs.model.Running.{HandlesLine, EndsBy, DoesScript, StopsScript, IsStopped};
 

@@ -1,47 +1,36 @@
 -- What a file says leaves no choice.
-use Rattle.std.proofs.Common.{◌≡◌, ℕ, List, [], ◌∷◌, ◌++◌, map, length, refl, ap, sym}
-use Rattle.std.proofs.Common.{◌∙◌, arith, Option, None, Some, Bool, true, false, ◌||◌}
+use Rattle.std.proofs.Common.{◌≡◌, ℕ, List, [], ◌∷◌, ◌++◌, map, length, refl, ap, sym, ◌∙◌, arith}
+use Rattle.std.proofs.Common.{Option, None, Some, Bool, true, false, ◌||◌}
 use Rattle.std.specs.List.{AllByRecursion, IsDistinct, list_any}
 use Rattle.std.specs.Prelude.{bytes_eq, Err, Ok}
 use Rattle.std.proofs.lemmas.Bool.{false≢true}
-use Rattle.std.proofs.lemmas.List.{length-map}
+use Rattle.std.proofs.lemmas.{List.length-map, Option.same_Some}
 use Rattle.std.proofs.lemmas.Map.Keys.{IsDistinct-head, IsDistinct-tail}
-use Rattle.std.proofs.lemmas.Option.{same_Some}
 use Rattle.toml.specs.Data.{Data, string, as_str, as_array, Members, get_member}
 use Rattle.toml.specs.View.{items_of}
 use Rattle.hall_file.specs.Addresses.{IsAddress, is_count}
 use Rattle.hall_file.specs.Files.{SaysHall, Refuses, Opens}
-use Rattle.hall_file.specs.Members.{hall_name, desks_name, key_name, unknown_name, key_of}
-use Rattle.hall_file.specs.Members.{list_of, SaysDesks, FailsDesks, HasItem, hall_of, SaysKey}
-use Rattle.hall_file.proofs.Texts.{same_texts}
-use Rattle.hall_file.specs.declared.fault.DesksFault.{DesksFault}
+use Rattle.hall_file.specs.Members.{hall_name, desks_name, key_name, unknown_name, key_of, list_of}
+use Rattle.hall_file.specs.Members.{SaysDesks, FailsDesks, HasItem, hall_of, SaysKey}
+use Rattle.hall_file.{proofs.Texts.same_texts, specs.declared.fault.KeyFault.KeyFault}
+use Rattle.hall_file.specs.declared.fault.{DesksFault.DesksFault, HallFault.HallFault}
 use Rattle.hall_file.specs.declared.fault.DesksFault.TheVariants.{NotList, BadCount, NotText}
 use Rattle.hall_file.specs.declared.fault.DesksFault.TheVariants.{NotAddress, Twice}
-use Rattle.hall_file.specs.declared.fault.HallFault.{HallFault}
 use Rattle.hall_file.specs.declared.fault.HallFault.TheVariants as fault
-use Rattle.hall_file.specs.declared.fault.KeyFault.{KeyFault}
 use Rattle.hall_file.specs.declared.fault.Member.TheVariants as name
 
 same_items : (ds es : List Data) → items_of ds ≡ items_of es → ds ≡ es
 same_items [] [] e = refl
-same_items [] (x ∷ es) e = absurd (cc)
-same_items (d ∷ ds) [] e = absurd (cc)
-same_items (d ∷ ds) (x ∷ es) e =
-    let head : d ≡ x = cc in
-    let tail : items_of ds ≡ items_of es = cc in
-    rw (head, same_items ds es tail) refl
+same_items (d ∷ ds) (x ∷ es) e = let tail : ds ≡ es = same_items ds es (cc) in cc
+same_items _ _ e = absurd (cc)
 
 same_lists : (ds es : List Data) → list_of ds ≡ list_of es → ds ≡ es
 same_lists ds es e = let inner : items_of ds ≡ items_of es = cc in same_items ds es inner
 
 same_strings : (xs ys : List (List ℕ)) → map string xs ≡ map string ys → xs ≡ ys
 same_strings [] [] e = refl
-same_strings [] (y ∷ ys) e = absurd (cc)
-same_strings (x ∷ xs) [] e = absurd (cc)
-same_strings (x ∷ xs) (y ∷ ys) e =
-    let head : x ≡ y = cc in
-    let tail : map string xs ≡ map string ys = cc in
-    rw (head, same_strings xs ys tail) refl
+same_strings (x ∷ xs) (y ∷ ys) e = let tail : xs ≡ ys = same_strings xs ys (cc) in cc
+same_strings _ _ e = absurd (cc)
 
 -- texts that a list of items is, cut at one of the items
 record IsCut (desks front : List (List ℕ)) (d : Data) : Type 0 where
@@ -53,18 +42,12 @@ record IsCut (desks front : List (List ℕ)) (d : Data) : Type 0 where
 cut_at : (front desks : List (List ℕ)) (d : Data) (rest : List Data)
     → map string front ++ d ∷ rest ≡ map string desks → IsCut desks front d
 cut_at [] [] d rest e = absurd (cc)
-cut_at [] (t ∷ desks) d rest e = record { text = t; rest = desks; value = cc; whole = refl }
 cut_at (f ∷ front) [] d rest e = absurd (cc)
+cut_at [] (t ∷ desks) d rest e = record { text = t; rest = desks; value = cc; whole = refl }
 cut_at (f ∷ front) (t ∷ desks) d rest e =
-    let head : f ≡ t = cc in
-    let tail : map string front ++ d ∷ rest ≡ map string desks = cc in
-    let cut = cut_at front desks d rest tail in
-    record {
-      text = cut.text;
-      rest = cut.rest;
-      value = cut.value;
-      whole = ap (λ x. x ∷ desks) (sym head) ∙ ap (λ xs. f ∷ xs) cut.whole;
-    }
+    let cut = cut_at front desks d rest (cc) in
+    let whole = cut.whole in
+    record { text = cut.text; rest = cut.rest; value = cut.value; whole = cc }
 
 all_here : (P : List ℕ → Type 0) (front : List (List ℕ)) (x : List ℕ) (rest : List (List ℕ))
     → AllByRecursion P (front ++ x ∷ rest) → P x
@@ -114,13 +97,11 @@ desks_exclude d desks (NotAddress k) says (front, text, has, wrong) =
 desks_exclude d desks (Twice k) says (front, text, has, address, found) =
     let cut = cut_of d (string text) front desks k says has in
     let same : text ≡ cut.text = cc in
-    apart_front front cut.text cut.rest (rw cut.whole at says.addresses.apart)
-    (rw (← same) found)
+    apart_front front cut.text cut.rest (rw cut.whole at says.addresses.apart) (rw (← same) found)
 
 -- a file is one document
 same_members : (bytes : List ℕ) (ms ns : Members) → Opens bytes ms → Opens bytes ns → ms ≡ ns
-same_members bytes ms ns one other =
-    same_Some ms ns (sym one.document.value ∙ other.document.value)
+same_members bytes ms ns one other = same_Some ms ns (sym one.document.value ∙ other.document.value)
 
 -- a member is one value
 same_value : (name : List ℕ) (ms ns : Members) (d e : Data) → ms ≡ ns → get_member name ms ≡ Some d
@@ -146,8 +127,7 @@ same_keys ms ns (Some path) (Some other) same (d, found, is) (e, at, says) =
     let oks : Ok path ≡ Ok other = sym is ∙ ap key_of value ∙ says in cc
 
 pub one_hall : (bytes : List ℕ) (hall other : ℕ) (desks others : List (List ℕ))
-    (key lock : Option (List ℕ))
-    → SaysHall bytes hall desks key → SaysHall bytes other others lock
+    (key lock : Option (List ℕ)) → SaysHall bytes hall desks key → SaysHall bytes other others lock
     → (hall ≡ other) × (desks ≡ others) × (key ≡ lock)
 one_hall bytes hall other desks others key lock a b =
     let same = same_members bytes a.members b.members a.has_hall.known.opens
@@ -173,8 +153,7 @@ key_excludes ms (Some path) d fault (e, at, is) found fails =
 
 -- what a file that says a hall is refused for
 pub refused_for : (bytes : List ℕ) (hall : ℕ) (desks : List (List ℕ)) (key : Option (List ℕ))
-    (why : HallFault)
-    → SaysHall bytes hall desks key → Refuses bytes why → why ≡ fault.NoMemory
+    (why : HallFault) → SaysHall bytes hall desks key → Refuses bytes why → why ≡ fault.NoMemory
 refused_for bytes hall desks key fault.TooLong s r =
     absurd (omega (arith, s.has_hall.known.opens.short))
 refused_for bytes hall desks key (fault.NotUtf8 line) s (short, no_text, at) =

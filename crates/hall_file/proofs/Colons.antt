@@ -1,11 +1,9 @@
 -- The last colon of a text parts it in one way.
-use Rattle.std.proofs.Common.{◌≡◌, ◌≢◌, ℕ, ◌<◌, ◌^◌, List, [], ◌∷◌, ◌++◌, length}
-use Rattle.std.proofs.Common.{get_or, refl, arith, length-append}
-use Rattle.std.specs.Fmt.{decimal}
-use Rattle.std.specs.Str.Parse.{AllDigits, digits_value}
-use Rattle.std.proofs.lemmas.Fmt.{digits_decimal}
+use Rattle.std.proofs.Common.{◌≡◌, ◌≢◌, ℕ, ◌<◌, ◌^◌, List, [], ◌∷◌, ◌++◌, length, get_or, refl}
+use Rattle.std.proofs.Common.{arith, length-append}
+use Rattle.std.specs.{Fmt.decimal, Str.Parse.AllDigits, Str.Parse.digits_value}
+use Rattle.std.proofs.lemmas.{Fmt.digits_decimal, Str.Parse.not_in_digits}
 use Rattle.std.proofs.lemmas.Str.Parse.{IsNumeralModel, numerals_by_value, tells_digits}
-use Rattle.std.proofs.lemmas.Str.Parse.{not_in_digits}
 
 abbrev pub NoColon : List ℕ → Type 0
 NoColon xs = (i : ℕ) → i < length xs → get_or xs i 0 ≢ 58
@@ -19,8 +17,7 @@ within_middle xs ys = rw length-append (omega arith)
 
 -- a text with a colon in it has one
 pub has_colon : (xs ys zs : List ℕ) → zs ≡ xs ++ 58 ∷ ys → NoColon zs → ⊥
-has_colon xs ys zs e none =
-    none (length xs) (rw e (within_middle xs ys)) (rw e (at_middle xs ys))
+has_colon xs ys zs e none = none (length xs) (rw e (within_middle xs ys)) (rw e (at_middle xs ys))
 
 -- two ways to part a text by a colon, with none after it, are one
 pub same_split : (h k p q : List ℕ) → h ++ 58 ∷ p ≡ k ++ 58 ∷ q → NoColon p → NoColon q
@@ -43,5 +40,4 @@ numerals = numerals_by_value _ tells_digits
 pub decimal_has_none : (n : ℕ) → n < 2 ^ 64 → NoColon (decimal n)
 decimal_has_none n small i within =
     not_in_digits numerals (decimal n) 58 (digits_decimal numerals n small)
-    (λ r. absurd (omega (arith, r.0, r.1)))
-    i within
+    (λ r. absurd (omega (arith, r.0, r.1))) i within

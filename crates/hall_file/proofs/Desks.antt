@@ -1,20 +1,13 @@
 -- The list of desks, as far as it was read.
 use Rattle.std.proofs.Common.{◌≡◌, ℕ, ◌<◌, ◌+◌, suc, List, [], ◌∷◌, ◌++◌, map, take, drop, length}
-use Rattle.std.proofs.Common.{get_or, refl, ap, sym, ◌∙◌}
-use Rattle.std.proofs.Common.{IsTrue, false, ℕ}
-use Rattle.std.specs.List.{AllByRecursion, list_any}
-use Rattle.std.specs.Prelude.{bytes_eq}
-use Rattle.std.proofs.lemmas.Cmp.{nat_list_eq_equiv}
-use Rattle.std.proofs.lemmas.List.{take_more, map-append, length-map}
-use Rattle.std.proofs.lemmas.Map.Keys.{IsDistinct-push}
-use Rattle.std.proofs.Math.Seq.{split_at}
-use Rattle.toml.specs.Data.{Data, string}
-use Rattle.toml.specs.View.{view}
-use Rattle.toml.specs.declared.value.Value.{Value}
+use Rattle.std.proofs.Common.{get_or, refl, ap, ◌∙◌, IsTrue, false}
+use Rattle.std.specs.{List.AllByRecursion, List.list_any, Prelude.bytes_eq}
+use Rattle.std.proofs.lemmas.{Cmp.nat_list_eq_equiv, List.take_more, Map.Keys.IsDistinct-push}
+use Rattle.std.proofs.{lemmas.List.map-append, lemmas.List.length-map, Math.Seq.split_at}
+use Rattle.toml.specs.{Data.Data, Data.string, View.view, declared.value.Value.Value}
 use Rattle.hall_file.specs.Addresses.{IsAddress, AreAddresses, is_count}
-use Rattle.hall_file.specs.Members.{list_of, SaysDesks, HasItem, FailsDesks}
-use Rattle.hall_file.specs.Next.{IsNext, FailsNext}
-use Rattle.hall_file.specs.declared.fault.DesksFault.{DesksFault}
+use Rattle.hall_file.specs.Members.{list_of, HasItem, FailsDesks}
+use Rattle.hall_file.specs.{Next.IsNext, Next.FailsNext, declared.fault.DesksFault.DesksFault}
 use Rattle.hall_file.specs.declared.fault.DesksFault.TheVariants.{NotList, BadCount, NotText}
 use Rattle.hall_file.specs.declared.fault.DesksFault.TheVariants.{NotAddress, Twice}
 
@@ -25,10 +18,7 @@ pub record AreRead (items : List Value) (i : ℕ) (front : List (List ℕ)) : Ty
 
 pub none_read : (items : List Value) → AreRead items 0 []
 unfolding Rattle.std.specs.List.IsDistinct
-none_read items = record {
-  same = refl;
-  addresses = record { each = tt; apart = tt };
-}
+none_read items = record { same = refl; addresses = record { each = tt; apart = tt } }
 
 all_push : (P : List ℕ → Type 0) (xs : List (List ℕ)) (x : List ℕ) → AllByRecursion P xs → P x
     → AllByRecursion P (xs ++ x ∷ [])
@@ -62,8 +52,7 @@ parted : (items : List Value) (i : ℕ) (front : List (List ℕ)) (item : Value)
     → AreRead items i front → i < length items → item ≡ get_or items i item
     → map view items ≡ map string front ++ view item ∷ map view (drop (suc i) items)
 parted items i front item read within at =
-    ap (map view) (split_at items i item within)
-    ∙ map-append view (take i items) _
+    ap (map view) (split_at items i item within) ∙ map-append view (take i items) _
     ∙ rw (read.same, ← at) refl
 
 has_item : (d : Data) (items : List Value) (i : ℕ) (front : List (List ℕ)) (item : Value) (k : ℕ)
@@ -82,8 +71,7 @@ has_item d items i front item k value count read within at desk =
 
 -- an item that cannot be there
 pub fails_here : (d : Data) (items : List Value) (i : ℕ) (front : List (List ℕ)) (item : Value)
-    (fault : DesksFault)
-    → d ≡ list_of (map view items) → IsTrue (is_count (length items))
+    (fault : DesksFault) → d ≡ list_of (map view items) → IsTrue (is_count (length items))
     → AreRead items i front → i < length items → item ≡ get_or items i item
     → FailsNext front (view item) fault → FailsDesks d fault
 fails_here d items i front item NotList value count read within at h = absurd h
@@ -101,16 +89,3 @@ fails_here d items i front item (Twice k) value count read within at h =
       address,
       found,
     )
-
--- all items
-pub all_read : (d : Data) (items : List Value) (front : List (List ℕ))
-    → d ≡ list_of (map view items) → IsTrue (is_count (length items))
-    → map view items ≡ map string front → AreAddresses front → SaysDesks d front
-all_read d items front value count same addresses = record {
-  value = value ∙ ap list_of same;
-  count =
-      let e : length items ≡ length front =
-      sym (length-map items view) ∙ ap length same ∙ length-map front string in
-      rw e at count;
-  addresses = addresses;
-}

@@ -1,10 +1,9 @@
 -- What a member of a table is, as a look-up gives it.
-use Rattle.std.proofs.Common.{◌≡◌, ℕ, List, Option, Some, None, option_map, Bor}
-use Rattle.std.proofs.Common.{Bool, refl, sym, ◌∙◌, is_some, not, true, false}
+use Rattle.std.proofs.Common.{◌≡◌, ℕ, List, Option, Some, None, option_map, Bor, Bool, refl, sym}
+use Rattle.std.proofs.Common.{◌∙◌, is_some, not, true, false}
 use Rattle.std.proofs.lemmas.Option.{same_Some}
 use Rattle.toml.specs.Data.{Data, Members, get_member}
-use Rattle.toml.specs.View.{view}
-use Rattle.toml.specs.declared.value.Value.{Value}
+use Rattle.toml.specs.{View.view, declared.value.Value.Value}
 use Rattle.hall_file.specs.Lines.{IsDocument, IsWithout}
 
 -- nothing is seen of a look-up exactly where it finds nothing

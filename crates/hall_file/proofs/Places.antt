@@ -1,8 +1,6 @@
 -- The longest run of whole lines that is a document without a member, as far as they were read.
-use Rattle.std.proofs.Common.{◌≡◌, ℕ, ◌<◌, ◌≤◌, ◌+◌, ◌-◌, ◌⊎◌, inl, inr, List, []}
-use Rattle.std.proofs.Common.{take, slice_index, refl, arith, Some}
-use Rattle.toml.specs.Data.{no_members}
-use Rattle.toml.specs.Parse.{parse_document}
+use Rattle.std.proofs.Common.{◌≡◌, ℕ, ◌<◌, ◌≤◌, inl, List, [], take, refl, arith, Some}
+use Rattle.toml.specs.{Data.no_members, Parse.parse_document}
 use Rattle.toml.proofs.OnLiterals.{toml_on_literals}
 use Rattle.hall_file.specs.Lines.{IsWithout, BeginsLine}
 
@@ -25,17 +23,3 @@ run_start bytes name = record {
   before = (no_members, record { utf8 = ([], (refl, refl)); value = nothing }, refl);
   longest = λ k above below b w. absurd (omega arith);
 }
-
--- a line ends at this byte, and the run goes on to it
-pub run_more : (bytes name : List ℕ) (place i : ℕ) → RunsTo bytes name place i
-    → slice_index bytes i ≡ 10 → IsWithout name (take (i + 1) bytes)
-    → RunsTo bytes name (i + 1) (i + 1)
-run_more bytes name place i run feed without = record {
-  within = omega arith;
-  begins = let e : (i + 1) - 1 ≡ i = omega arith in inr (omega arith, rw e feed);
-  before = without;
-  longest = λ k above below b w. absurd (omega arith);
-}
-
-split_at : (k i : ℕ) → k ≤ i + 1 → (k ≤ i) ⊎ (k ≡ i + 1)
-split_at k i h = grind arith

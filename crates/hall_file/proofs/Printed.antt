@@ -3,9 +3,8 @@ use Rattle.std.proofs.Common.{◌≡◌, ◌≢◌, ℕ, ◌≤◌, List, [], �
 use Rattle.std.proofs.Common.{pos, le-leb, Option, None, Some}
 use Rattle.toml.specs.Data.{string, integer, items_depth, members_depth}
 use Rattle.toml.specs.View.{items_of}
-use Rattle.hall_file.specs.Addresses.{AreAddresses, is_count}
+use Rattle.hall_file.specs.{Addresses.AreAddresses, Addresses.is_count, Lines.IsDocument}
 use Rattle.hall_file.specs.Files.{members_of, most_bytes, SaysHall}
-use Rattle.hall_file.specs.Lines.{IsDocument}
 use Rattle.hall_file.specs.Members.{list_of, last_hall, unknown_name, SaysKey}
 
 texts_depth : (desks : List (List ℕ)) → items_depth (items_of (map string desks)) ≡ 0

@@ -2,8 +2,7 @@
 use Rattle.std.specs.Prelude.{◌≡◌, ◌≢◌, ◌≤◌, ◌<◌, ℕ, ◌==◌, ◌||◌, Bool, not, ◌&&◌, IsTrue, decimal}
 use Rattle.std.specs.Prelude.{List, [], ◌∷◌, ◌++◌, bytes_eq}
 use Rattle.std.specs.List.{list_all, AllByRecursion, IsDistinct}
-use Rattle.std.specs.Char.{is_whitespace, is_control}
-use Rattle.std.specs.Str.{chars}
+use Rattle.std.specs.{Char.is_whitespace, Char.is_control, Str.chars}
 
 -- a character of a host: no white space and no control character (Unicode's White_Space and Cc)
 abbrev pub is_host_char : ℕ → Bool

@@ -1,20 +1,15 @@
 -- The file of a hall: what it says, and why a file says nothing (the project's own).
-use Rattle.std.specs.Prelude.{◌≡◌, ◌≤◌, ◌<◌, ℕ, pos, List, map, length, Option, Some, None, Ok}
-use Rattle.std.specs.Prelude.{Err}
-use Rattle.std.specs.Prelude.{string_bytes}
-use Rattle.std.specs.Str.{IsUtf8}
-use Rattle.std.specs.Str.Lossy.{utf8_valid_len}
+use Rattle.std.specs.Prelude.{◌≡◌, ◌≤◌, ◌<◌, ℕ, pos, List, map, length, Option, Some, None, Ok, Err}
+use Rattle.std.specs.{Prelude.string_bytes, Str.IsUtf8, Str.Lossy.utf8_valid_len}
 use Rattle.toml.specs.Data.{Data, Members, no_members, member, integer, string, get_member}
-use Rattle.toml.specs.Parse.{parse_document}
-use Rattle.toml.specs.Errors.{IsWithin, IsMemory, span_start}
+use Rattle.toml.specs.{Parse.parse_document, Errors.IsWithin, Errors.IsMemory, Errors.span_start}
 use Rattle.hall_file.specs.Lines.{IsDocument, IsLineOf, line_at}
 use Rattle.hall_file.specs.Members.{hall_name, desks_name, key_name, unknown_name, hall_of, key_of}
 use Rattle.hall_file.specs.Members.{list_of, SaysDesks, FailsDesks, SaysKey}
+use Rattle.hall_file.specs.declared.fault.HallFault.{HallFault, TheVariants.NoMemory}
+use Rattle.hall_file.specs.declared.fault.HallFault.TheVariants.{TooLong, NotUtf8, NotToml, Unknown}
+use Rattle.hall_file.specs.declared.fault.HallFault.TheVariants.{Missing, Hall, Desks, Key}
 use Rattle.hall_file.specs.declared.fault.Member.TheVariants as name
-use Rattle.hall_file.specs.declared.fault.HallFault.{HallFault}
-use Rattle.hall_file.specs.declared.fault.HallFault.TheVariants.{TooLong, NotUtf8, NotToml}
-use Rattle.hall_file.specs.declared.fault.HallFault.TheVariants.{Unknown, Missing, Hall, Desks, Key}
-use Rattle.hall_file.specs.declared.fault.HallFault.TheVariants.{NoMemory}
 
 -- 8 KiB
 abbrev pub most_bytes : ℕ

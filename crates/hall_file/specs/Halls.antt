@@ -1,13 +1,10 @@
 -- The file of a hall as the program has it (the project's own).
 use Rattle.std.specs.Prelude.{◌≡◌, ℕ, zero, suc, List, [], map, Option, None, String, Vec}
 use Rattle.std.specs.Prelude.{option_map, string_bytes, slice_get, unwrap_or}
-use Rattle.std.specs.Path.{path_parent}
-use Rattle.std.specs.declared.alloc.Global.{Global}
+use Rattle.std.specs.{Path.path_parent, declared.alloc.Global.Global}
 use Rattle.toml.specs.Data.{Data, Members, string}
-use Rattle.hall_file.specs.Addresses.{AreAddresses}
-use Rattle.hall_file.specs.Files.{ListsDesks, SaysHall}
-use Rattle.hall_file.specs.Members.{list_of}
-use Rattle.hall_file.specs.declared.hall_file.HallFile.{HallFile}
+use Rattle.hall_file.specs.{Addresses.AreAddresses, Members.list_of}
+use Rattle.hall_file.specs.{Files.ListsDesks, Files.SaysHall, declared.hall_file.HallFile.HallFile}
 
 -- the addresses of the desks
 abbrev pub texts_of : HallFile → List (List ℕ)

@@ -1,8 +1,7 @@
 -- What a file says, and why it is refused, leave no choice (the project's own).
 use Rattle.std.specs.Prelude.{◌≡◌, ℕ, List, Option}
 use Rattle.hall_file.specs.Files.{SaysHall, Refuses}
-use Rattle.hall_file.specs.declared.fault.HallFault.{HallFault}
-use Rattle.hall_file.specs.declared.fault.HallFault.TheVariants.{NoMemory}
+use Rattle.hall_file.specs.declared.fault.HallFault.{HallFault, TheVariants.NoMemory}
 
 -- a file says one hall at most
 abbrev pub SaysOneHall : Type 0

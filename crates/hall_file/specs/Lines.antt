@@ -1,9 +1,7 @@
 -- The lines of a file, and the line on which a member begins (the project's own).
 use Rattle.std.specs.Prelude.{◌≡◌, ◌≤◌, ◌<◌, ◌+◌, ◌-◌, ℕ, ◌==◌, ◌⊎◌, List, length, take}
-use Rattle.std.specs.Prelude.{slice_index, count_by, Some, None}
-use Rattle.std.specs.Str.{IsUtf8}
-use Rattle.toml.specs.Data.{Members, get_member}
-use Rattle.toml.specs.Parse.{parse_document}
+use Rattle.std.specs.{Prelude.slice_index, Prelude.count_by, Prelude.Some, Prelude.None, Str.IsUtf8}
+use Rattle.toml.specs.{Data.Members, Data.get_member, Parse.parse_document}
 
 abbrev pub line_feed : ℕ
 line_feed = 10
@@ -23,8 +21,7 @@ IsWithout name text = (ms : Members) × IsDocument text ms × (get_member name m
 
 -- a line begins at this place
 abbrev pub BeginsLine : List ℕ → ℕ → Type 0
-BeginsLine bytes place =
-    (place ≡ 0) ⊎ ((0 < place) × (slice_index bytes (place - 1) ≡ line_feed))
+BeginsLine bytes place = (place ≡ 0) ⊎ ((0 < place) × (slice_index bytes (place - 1) ≡ line_feed))
 
 -- A member begins on the line after the longest run of whole lines from the beginning of the file
 -- that is a document without it. Blank lines and comments in front of it belong to that run. Of a

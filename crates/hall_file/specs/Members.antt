@@ -1,20 +1,15 @@
 -- What the members of a hall's file say: the hall's number, the addresses of its desks, and where
 -- its key is (the project's own).
-use Rattle.std.specs.Prelude.{◌≡◌, ◌+◌, ℕ, pos, negsuc, ◌||◌, true, false, IsTrue}
-use Rattle.std.specs.Prelude.{if◌then◌else◌, nat_le, List, [], ◌∷◌, ◌++◌, map, length, codes}
-use Rattle.std.specs.Prelude.{bytes_eq}
-use Rattle.std.specs.Prelude.{Option, Some, None, Result, Ok, Err}
-use Rattle.std.specs.List.{list_any}
-use Rattle.toml.specs.Data.{Data, string, integer, array}
-use Rattle.toml.specs.Data.{Members, no_members, member, as_str, as_array, get_member}
-use Rattle.toml.specs.View.{items_of}
+use Rattle.std.specs.Prelude.{◌≡◌, ◌+◌, ℕ, pos, negsuc, ◌||◌, true, false, IsTrue, if◌then◌else◌}
+use Rattle.std.specs.Prelude.{nat_le, List, [], ◌∷◌, ◌++◌, map, length, codes, bytes_eq, Option, Ok}
+use Rattle.std.specs.{Prelude.Some, Prelude.None, Prelude.Result, Prelude.Err, List.list_any}
+use Rattle.toml.specs.Data.{Data, string, integer, array, Members, no_members, member, as_str}
+use Rattle.toml.specs.{Data.as_array, Data.get_member, View.items_of}
 use Rattle.hall_file.specs.Addresses.{IsAddress, AreAddresses, is_count}
-use Rattle.hall_file.specs.declared.fault.HallNumberFault.{HallNumberFault}
+use Rattle.hall_file.specs.declared.fault.{HallNumberFault.HallNumberFault, DesksFault.DesksFault}
 use Rattle.hall_file.specs.declared.fault.HallNumberFault.TheVariants.{NotInteger, OutOfRange}
-use Rattle.hall_file.specs.declared.fault.DesksFault.{DesksFault}
-use Rattle.hall_file.specs.declared.fault.DesksFault.TheVariants.{NotList, BadCount, NotText}
-use Rattle.hall_file.specs.declared.fault.DesksFault.TheVariants.{NotAddress, Twice}
-use Rattle.hall_file.specs.declared.fault.KeyFault.{KeyFault}
+use Rattle.hall_file.specs.declared.fault.DesksFault.TheVariants.{NotList, BadCount, NotText, Twice}
+use Rattle.hall_file.specs.declared.fault.{DesksFault.TheVariants.NotAddress, KeyFault.KeyFault}
 use Rattle.hall_file.specs.declared.fault.KeyFault.TheVariants as key
 
 abbrev pub hall_name : List ℕ

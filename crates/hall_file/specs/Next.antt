@@ -3,12 +3,10 @@
 use Rattle.std.specs.Prelude.{◌≡◌, ◌+◌, ℕ, List, length, bytes_eq, true, false, None}
 use Rattle.std.specs.List.{list_any}
 use Rattle.toml.specs.Data.{Data, string, as_str}
-use Rattle.hall_file.specs.Addresses.{IsAddress}
-use Rattle.hall_file.specs.Members.{FailsDesks}
-use Rattle.hall_file.specs.declared.fault.DesksFault.{DesksFault}
+use Rattle.hall_file.specs.{Addresses.IsAddress, Members.FailsDesks}
+use Rattle.hall_file.specs.declared.fault.{DesksFault.DesksFault, DesksStop.DesksStop}
 use Rattle.hall_file.specs.declared.fault.DesksFault.TheVariants.{NotList, BadCount, NotText}
 use Rattle.hall_file.specs.declared.fault.DesksFault.TheVariants.{NotAddress, Twice}
-use Rattle.hall_file.specs.declared.fault.DesksStop.{DesksStop}
 use Rattle.hall_file.specs.declared.fault.DesksStop.TheVariants.{Fault, NoMemory}
 
 -- the item is an address that none of the desks in front has

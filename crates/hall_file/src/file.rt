@@ -3,8 +3,7 @@
 ghost use Rattle.std.specs.Prelude.{IfOk, IfErr, List, option_map, string_bytes, ℕ};
 ghost use Rattle.toml.specs.View.{table_view};
 ghost use Rattle.hall_file.specs.Files.{HasHall, IsKnown, ListsDesks, Opens, Refuses};
-ghost use Rattle.hall_file.specs.Halls.{Says, FindsDesks};
-ghost use Rattle.hall_file.specs.Members.{SaysKey};
+ghost use Rattle.hall_file.specs.{Halls.Says, Halls.FindsDesks, Members.SaysKey};
 
 use crate::fault::{DesksStop, HallFault, Member};
 use crate::hall_file::HallFile;
@@ -100,8 +99,7 @@ fn read_desks(alloc: Global, bytes: &[u8], table: &Table) -> Result<Vec<String>,
 /// The path of the key's file, in a file whose hall and desks were read.
 fn read_key(alloc: Global, bytes: &[u8], table: &Table) -> Result<Option<String>, HallFault>
     requires { Opens bytes.now (table_view table.now) }
-    ensures ok { IfOk result (λ key.
-        SaysKey (table_view table.now) (option_map string_bytes key)) }
+    ensures ok { IfOk result (λ key. SaysKey (table_view table.now) (option_map string_bytes key)) }
     ensures err { IfErr result (λ fault. (hall : ℕ) (desks : List (List ℕ))
         → HasHall bytes.now (table_view table.now) hall
         → ListsDesks (table_view table.now) desks → Refuses bytes.now fault) }

@@ -2,8 +2,7 @@
 
 ghost use Rattle.std.specs.Prelude.{◌≡◌, map, IfErr, IfOk};
 ghost use Rattle.toml.specs.View.{view};
-ghost use Rattle.hall_file.specs.Halls.{HasDesks, data_of};
-ghost use Rattle.hall_file.specs.Next.{StopsDesks};
+ghost use Rattle.hall_file.specs.{Halls.HasDesks, Halls.data_of, Next.StopsDesks};
 
 use crate::fault::DesksStop;
 use crate::hall_file::HallFile;

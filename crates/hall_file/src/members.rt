@@ -1,12 +1,10 @@
 //! What the members of a hall's file say.
 
-ghost use Rattle.std.specs.Prelude.{◌≡◌, map, option_map, string_bytes, bytes_eq, length};
-ghost use Rattle.std.specs.Prelude.{Err, IfOk, IfErr, IsTrue, Ok};
-ghost use Rattle.std.specs.List.{list_any};
+ghost use Rattle.std.specs.Prelude.{◌≡◌, map, option_map, string_bytes, bytes_eq, length, Err};
+ghost use Rattle.std.specs.{Prelude.IfOk, Prelude.IfErr, Prelude.IsTrue, Prelude.Ok, List.list_any};
 ghost use Rattle.toml.specs.View.{view, table_view};
-ghost use Rattle.hall_file.specs.Addresses.{is_count};
+ghost use Rattle.hall_file.specs.{Addresses.is_count, Members.FailsDesks};
 ghost use Rattle.hall_file.specs.Members.{unknown_name, hall_of, key_of, list_of, SaysDesks};
-ghost use Rattle.hall_file.specs.Members.{FailsDesks};
 ghost use Rattle.hall_file.specs.Next.{IsNext, FailsNext, StopsDesks};
 
 use crate::address::is_address;

@@ -1,8 +1,7 @@
 //! The file of a hall at a path.
 
 ghost use Rattle.std.specs.Prelude.{ℕ, List, IfOk, IfErr};
-ghost use Rattle.hall_file.specs.Halls.{Says};
-ghost use Rattle.hall_file.specs.Opening.{IsOfPath};
+ghost use Rattle.hall_file.specs.{Halls.Says, Opening.IsOfPath};
 
 use crate::fault::HallFault;
 use crate::file::{MOST_BYTES, read_hall};

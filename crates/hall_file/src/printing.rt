@@ -1,14 +1,11 @@
 //! The text of a hall's file.
 
-ghost use Rattle.std.specs.Prelude.{◌≡◌, ◌≢◌, ◌≤◌, [], map, option_map, string_bytes, length};
-ghost use Rattle.std.specs.Prelude.{IfOk, Some};
-ghost use Rattle.toml.specs.Data.{string};
-ghost use Rattle.toml.specs.View.{view, table_view};
-ghost use Rattle.hall_file.specs.Addresses.{AreAddresses};
+ghost use Rattle.std.specs.Prelude.{◌≡◌, ◌≢◌, ◌≤◌, [], map, option_map, string_bytes, length, IfOk};
+ghost use Rattle.std.specs.Prelude.{Some};
+ghost use Rattle.toml.specs.{Data.string, View.view, View.table_view};
+ghost use Rattle.hall_file.specs.{Addresses.AreAddresses, Lines.IsDocument, Members.list_of};
 ghost use Rattle.hall_file.specs.Files.{members_of, most_bytes};
 ghost use Rattle.hall_file.specs.Halls.{Says, key_text, texts_of};
-ghost use Rattle.hall_file.specs.Lines.{IsDocument};
-ghost use Rattle.hall_file.specs.Members.{list_of};
 
 use crate::hall_file::HallFile;
 use std::alloc::{AllocError, Global};

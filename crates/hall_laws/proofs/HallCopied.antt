@@ -1,43 +1,31 @@
 -- Desks decide an entry, and one of them answers it.
-use Rattle.std.proofs.Common.{◌≡◌, refl, sym, ap, subst, ◌∙◌, ℕ, List, [], ◌∷◌, ◌++◌, length}
-use Rattle.std.proofs.Common.{None, take, arith}
-use Rattle.std.proofs.lemmas.List.{append-nil}
+use Rattle.std.proofs.Common.{◌≡◌, refl, sym, ap, subst, ◌∙◌, ℕ, List, [], ◌∷◌, ◌++◌, length, None}
+use Rattle.std.proofs.{Common.take, Common.arith, lemmas.List.append-nil}
 use Rattle.acceptor.specs.declared.message.Body.TheVariants.{Accept, Accepted}
 use Rattle.acceptor.specs.declared.message.Message.{Message}
 use Rattle.answers.specs.Seen.{Seen}
-use Rattle.progress.specs.Tangle.{ballot, entry}
-use Rattle.serving.specs.Asking.{request}
+use Rattle.learner.specs.Ranges.{IsInRange}
+use Rattle.progress.{specs.Tangle.ballot, specs.Tangle.entry, proofs.Tangle.and}
+use Rattle.serving.specs.{Asking.request, Turns.Talk}
 use Rattle.serving.specs.Connection.{answer_frame, close_of, serve_frame}
-use Rattle.serving.specs.Serving.{Act, call, enter, framed}
-use Rattle.serving.specs.Serving.{push_all, start_if_grown, take as take_event}
-use Rattle.serving.specs.TurnLaw.{Began, Came}
-use Rattle.serving.specs.Turns.{Talk}
-use Rattle.serving.specs.declared.request.Request.{Request}
-use Rattle.serving.specs.declared.request.Request.TheVariants.{Copied}
-use Rattle.connections.specs.Connections.{TurnOf}
+use Rattle.serving.specs.Serving.{Act, call, enter, push_all, start_if_grown, take as take_event}
+use Rattle.serving.specs.declared.request.Request.{Request, TheVariants.Copied}
 use Rattle.store.specs.declared.home.Home.{Home}
-use Rattle.wire.specs.Ranges.{IsFrame}
-use Rattle.wire.specs.Spelling.{spelling}
-use Rattle.wire.specs.declared.frame.FrameBody.TheVariants as what
-use Rattle.wire.specs.declared.values.Version.TheVariants.{Two, Three}
+use Rattle.wire.specs.{Ranges.IsFrame, declared.values.Version.TheVariants.Three}
 use Rattle.hall_laws.specs.Copied.{CopiesOneEntry, given, log_frame}
-use Rattle.hall_laws.specs.Copying.{AnswersCopy}
-use Rattle.hall_laws.specs.HallExample.{third_home}
+use Rattle.hall_laws.specs.{Copying.AnswersCopy, HallExample.third_home, Stops.CallsAreHappenings}
+use Rattle.hall_laws.specs.{Memory.Memory, Memory.memory, Tangle.first_hall}
 use Rattle.hall_laws.specs.HallGoing.{IsServedTo, acts_for, as_it_goes}
 use Rattle.hall_laws.specs.HallRuns.{FrameWasSent, Hall, HallGoes, HallStep, IsHallRun, Station}
 use Rattle.hall_laws.specs.HallRuns.{TurnAt, hall_after, home_at, seen_of}
-use Rattle.hall_laws.specs.Memory.{Memory, memory}
-use Rattle.hall_laws.specs.Stops.{CallsAreHappenings}
-use Rattle.hall_laws.specs.Tangle.{first_hall}
-use Rattle.hall_laws.proofs.HallFrames.{answer_to, begun_at, came_at, desk_with, done_at}
-use Rattle.hall_laws.proofs.HallFrames.{takes_turn_as, talk_here, talk_with}
-use Rattle.hall_laws.proofs.HallFree.{IsFree, after_both, run_more, stands_at_end}
-use Rattle.hall_laws.proofs.HallMemory.{hands_none, led_message}
-use Rattle.hall_laws.proofs.HallMoves.{Moves, Play, Played, asked_so, by_frame}
-use Rattle.hall_laws.proofs.HallSound.{SoundAt}
-use Rattle.hall_laws.proofs.HallTangle.{cut_front, cut_here, entry_fits, made, moves_1, moves_2}
-use Rattle.hall_laws.proofs.HallTangle.{moves_3, moves_4, moves_5, moves_6, ours_2, ours_3, play_6}
-use Rattle.hall_laws.proofs.HallTurns.{station_here, with_station}
+use Rattle.hall_laws.proofs.HallFrames.{answer_to, begins_at, begun_goes, came_goes, comes_at}
+use Rattle.hall_laws.proofs.HallFrames.{past_frame, talk_here, talk_with, with_frame}
+use Rattle.hall_laws.proofs.HallGoing.{IsFree, after_both, run_more, stands_at_end, station_here}
+use Rattle.hall_laws.proofs.{HallGoing.with_station, HallMemory.hands_none, HallSound.SoundAt}
+use Rattle.hall_laws.proofs.{HallMoves.Play, HallMoves.Played, HallExample.two_of_three}
+use Rattle.hall_laws.proofs.HallTangle.{AllCome, Deed, Hears, come, cut_front, cut_here, entry_fits}
+use Rattle.hall_laws.proofs.HallTangle.{made_it, moves_6, ours_3, play_6, play_after}
+use Rattle.wire.specs.declared.frame.FrameBody.TheVariants as what
 
 -- ---- desk 3 hears its own vote, asks desk 2 for its, and has it
 
@@ -50,66 +38,21 @@ asks_vote = record { from = 3; to = 2; body = Accept (ballot 1 3) 0 (entry 7) }
 abbrev votes : Message
 votes = record { from = 2; to = 3; body = Accepted (ballot 1 3) 0 }
 
-abbrev play_7 : Play
-play_7 = asked_so play_6 3 (request (third_home 3) (framed Two 7 own_vote))
-
-abbrev play_8 : Play
-play_8 = asked_so play_7 2 (request (third_home 2) (framed Two 7 asks_vote))
+abbrev hears : List Deed
+hears = Hears own_vote 9 ∷ Hears asks_vote 7 ∷ Hears votes 10 ∷ []
 
 abbrev play_9 : Play
-play_9 = asked_so play_8 3 (request (third_home 3) (framed Two 7 votes))
+play_9 = play_after play_6 hears
 
-moves_7 : CallsAreHappenings memory → (steps : List (HallStep Memory)) → Played steps play_6
-    → Moves steps play_7
+they_come : AllCome play_6 hears
 unfolding close_of serve_frame call push_all start_if_grown enter take_event
-moves_7 law steps was =
-    by_frame law steps play_6 was 3 ours_3 (framed Two 7 own_vote)
-    (record {
-      hall = omega arith;
-      goes = ((omega arith, omega arith), (omega arith, omega arith));
-      body = ((omega arith, omega arith, (omega arith, omega arith)), omega arith);
-    })
-    ((9, refl, refl), tt) refl
-    (λ x sound.
-    led_message 7 3 3 ours_3 x Two own_vote (made 1 3 (omega arith) (omega arith) ours_3) sound
-    refl)
-    (λ e is. absurd cc)
-
-moves_8 : CallsAreHappenings memory → (steps : List (HallStep Memory)) → Played steps play_7
-    → Moves steps play_8
-unfolding close_of serve_frame call push_all start_if_grown enter take_event
-moves_8 law steps was =
-    by_frame law steps play_7 was 2 ours_2 (framed Two 7 asks_vote)
-    (record {
-      hall = omega arith;
-      goes = ((omega arith, omega arith), (omega arith, omega arith));
-      body = (
-        (omega arith, omega arith, (omega arith, omega arith)),
-        omega arith,
-        entry_fits 7 (omega arith) (omega arith),
-      );
-    })
-    ((7, refl, refl), tt) refl
-    (λ x sound.
-    led_message 7 3 2 ours_2 x Two asks_vote
-    (made 1 3 (omega arith) (omega arith) ours_3, entry_fits 7 (omega arith) (omega arith)) sound
-    refl)
-    (λ e is. absurd cc)
-
-moves_9 : CallsAreHappenings memory → (steps : List (HallStep Memory)) → Played steps play_8
-    → Moves steps play_9
-unfolding close_of serve_frame call push_all start_if_grown enter take_event
-moves_9 law steps was =
-    by_frame law steps play_8 was 3 ours_3 (framed Two 7 votes)
-    (record {
-      hall = omega arith;
-      goes = ((omega arith, omega arith), (omega arith, omega arith));
-      body = ((omega arith, omega arith, (omega arith, omega arith)), omega arith);
-    })
-    ((10, refl, refl), tt) refl
-    (λ x sound.
-    led_message 7 3 3 ours_3 x Two votes (made 1 3 (omega arith) (omega arith) ours_3) sound refl)
-    (λ e is. absurd cc)
+they_come =
+    let own : IsInRange 3 own_vote = record { from = ours_3; to = ours_3; body = refl } in
+    let to_2 : IsInRange 3 asks_vote = record { from = ours_3; to = two_of_three; body = refl } in
+    let his : IsInRange 3 votes = record { from = two_of_three; to = ours_3; body = refl } in
+    let fits = entry_fits 7 (omega arith) (omega arith) in
+    and (own, made_it, refl, refl) (and (to_2, (made_it, fits), refl, refl)
+    (and (his, made_it, refl, refl) tt))
 
 -- ---- desk 3 is asked for its log
 
@@ -146,11 +89,7 @@ copied law steps was =
         entry 7 ∷ [],
         ours_3,
         answers,
-        (
-          (omega arith, λ place mine its below. absurd (omega (arith, below))),
-          omega arith,
-          refl,
-        ),
+        ((omega arith, λ place mine its below. absurd (omega (arith, below))), omega arith, refl),
         refl,
       );
     }
@@ -207,13 +146,10 @@ copied law steps was =
     acts = acts_for memory x (request home log_frame)
 
     one : Station Memory
-    one = desk_with x x.talks number (talk_with home x.wire (log_frame ∷ []) 0 [])
-
-    past : Talk
-    past = talk_with home x.wire [] 1 (answer_to home (seen_of x.node) log_frame)
+    one = with_frame memory x number log_frame
 
     two : Station Memory
-    two = desk_with y x.talks number past
+    two = past_frame memory x y number log_frame
 
     m : Hall Memory
     m = with_station h 3 one []
@@ -221,31 +157,21 @@ copied law steps was =
     g : Hall Memory
     g = with_station m 3 two acts
 
-    came : TurnOf
-    came = record { number = number; turn = Came (spelling log_frame) }
-
-    begins : TurnOf
-    begins = record { number = number; turn = Began (as_it_goes log_frame) }
-
     first : HallStep Memory
-    first = record { event = TurnAt 3 came []; after = m }
+    first = record { event = TurnAt 3 (comes_at number log_frame) []; after = m }
 
     second : HallStep Memory
-    second = record { event = TurnAt 3 begins acts; after = g }
+    second = record { event = TurnAt 3 (begins_at number log_frame) acts; after = g }
 
-    first_goes : HallGoes memory 3 (TurnAt 3 came []) h m
+    first_goes : HallGoes memory 3 first.event h m
     first_goes =
-        takes_turn_as memory 3 3 h came x one [] refl ours_3 refl
-        (came_at memory x number log_frame log_is_frame (free.1 free.0 (omega arith))) refl tt
+        came_goes memory 3 3 number h log_frame ours_3 log_is_frame (free.1 free.0 (omega arith))
 
-    second_goes : HallGoes memory 3 (TurnAt 3 begins acts) m g
+    second_goes : HallGoes memory 3 second.event m g
     second_goes =
-        takes_turn_as memory 3 3 m begins one two acts (station_here h 3 one []) ours_3 served.wire
-        (begun_at memory x y number log_frame stays served)
-        (done_at memory x y number log_frame)
-        (subst
-        (λ (u : Home). FrameWasSent u m.sent (as_it_goes log_frame))
-        (sym at) tt)
+        begun_goes memory 3 3 number m log_frame x y (station_here h 3 one []) ours_3
+        (subst (λ (u : Home). FrameWasSent u m.sent (as_it_goes log_frame)) (sym at) tt) stays
+        served
 
     front : List (HallStep Memory)
     front = steps ++ first ∷ []
@@ -264,7 +190,7 @@ copied law steps was =
         subst (λ (s : List (HallStep Memory)). IsHallRun memory 3 first_hall s)
         (sym (append-nil (front ++ second ∷ [])))
         (run_more memory 3 first_hall front (second ∷ []) front_run (
-          subst (λ (u : Hall Memory). HallGoes memory 3 (TurnAt 3 begins acts) u g) (sym to_m)
+          subst (λ (u : Hall Memory). HallGoes memory 3 second.event u g) (sym to_m)
               second_goes,
           tt,
         ))
@@ -275,7 +201,9 @@ copied law steps was =
         ∙ to_m
 
     open_still : ((g.desks 3).talks number).end ≡ None
-    open_still = ap (λ (t : Talk). t.end) (talk_here x.talks number past)
+    open_still =
+        ap (λ (t : Talk). t.end) (talk_here x.talks number
+        (talk_with home x.wire [] 1 (answer_to home (seen_of x.node) log_frame)))
 
     answers : AnswersCopy memory first_hall all (length front) 3 (given (length front)).copy
     answers = record {
@@ -300,22 +228,4 @@ copied law steps was =
 
 pub copies_one_entry : CallsAreHappenings memory → CopiesOneEntry
 copies_one_entry law =
-    let m1 = moves_1 law in
-    let a1 = m1.more in
-    let m2 = moves_2 law a1 m1.played in
-    let a2 = a1 ++ m2.more in
-    let m3 = moves_3 law a2 m2.played in
-    let a3 = a2 ++ m3.more in
-    let m4 = moves_4 law a3 m3.played in
-    let a4 = a3 ++ m4.more in
-    let m5 = moves_5 law a4 m4.played in
-    let a5 = a4 ++ m5.more in
-    let m6 = moves_6 law a5 m5.played in
-    let a6 = a5 ++ m6.more in
-    let m7 = moves_7 law a6 m6.played in
-    let a7 = a6 ++ m7.more in
-    let m8 = moves_8 law a7 m7.played in
-    let a8 = a7 ++ m8.more in
-    let m9 = moves_9 law a8 m8.played in
-    let a9 = a8 ++ m9.more in
-    copied law a9 m9.played
+    let was = come law play_6 hears (moves_6 law) they_come in copied law was.0 was.1

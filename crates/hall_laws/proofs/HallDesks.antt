@@ -4,40 +4,29 @@ use Rattle.std.proofs.Common.{◌≡◌, ◌⊎◌, inl, inr, refl, sym, ap, sub
 use Rattle.std.proofs.Common.{List, [], ◌∷◌, ◌++◌, Option, None, Some, Result, Ok, Err}
 use Rattle.std.proofs.lemmas.List.{append-nil, append_assoc}
 use Rattle.std.specs.Prelude.{OnErr, IfOk}
-use Rattle.acceptor.specs.declared.entry.Entry.{Entry}
-use Rattle.acceptor.specs.declared.message.Message.{Message}
+use Rattle.acceptor.specs.declared.{entry.Entry.Entry, message.Message.Message}
 use Rattle.acceptor.specs.declared.stored.Stored.{Stored}
-use Rattle.learner.specs.Desks.{Desk, restarted}
-use Rattle.learner.specs.Ranges.{AreInRange}
-use Rattle.learner.specs.Steps.{step}
-use Rattle.learner.specs.Worlds.{World}
+use Rattle.learner.specs.{Desks.Desk, Desks.restarted, Ranges.AreInRange, Steps.step, Worlds.World}
 use Rattle.learner.specs.declared.event.DeskEvent.{DeskEvent}
 use Rattle.learner.specs.declared.event.WorldEvent.TheVariants.{Submit as SubmitAt}
 use Rattle.learner.specs.declared.event.WorldEvent.TheVariants.{Restart as RestartAt}
-use Rattle.replica.specs.Handles.{Handles, step_at}
-use Rattle.replica.specs.Nodes.{NodeValue}
-use Rattle.replica.specs.Opens.{Opens}
+use Rattle.replica.specs.{Handles.Handles, Nodes.NodeValue, Opens.Opens, roles.Opening.opened}
 use Rattle.replica.specs.Stores.{HoldsDesk, HoldsStep, HoldsBeforeOrAfter}
-use Rattle.replica.specs.roles.Opening.{opened}
-use Rattle.replica.specs.declared.roles.fault.NodeFault.{NodeFault}
-use Rattle.replica.specs.declared.roles.fault.NodeFault.TheVariants.{Down}
+use Rattle.replica.specs.declared.roles.fault.NodeFault.{NodeFault, TheVariants.Down}
 use Rattle.serving.specs.Connection.{Begun, Sides, serve_frame}
+use Rattle.serving.specs.{Turns.Rests, Serving.Act, declared.ends.ConnectionEnd.ConnectionEnd}
+use Rattle.serving.{specs.Turns.Talk, specs.Turns.LeavesAt, proofs.Fates.AreInRange-append}
 use Rattle.serving.specs.Making.{Call, Lead, Way, Makes, calls_of}
-use Rattle.serving.specs.Serving.{Act}
-use Rattle.serving.specs.Turns.{Talk, LeavesAt, Rests}
 use Rattle.serving.specs.TurnLaw.{Place, Turn, Came, Began, Rested, Took, Turns, sides_in, IsQuiet}
-use Rattle.serving.specs.declared.ends.ConnectionEnd.{ConnectionEnd}
-use Rattle.serving.specs.declared.ends.ConnectionEnd.TheVariants as end
-use Rattle.store.specs.declared.home.Home.{Home}
-use Rattle.store.specs.declared.keeper.Keeper.{Ghosts}
-use Rattle.wire.specs.declared.frame.FrameBody.TheVariants as what
+use Rattle.store.specs.declared.{home.Home.Home, keeper.Keeper.Ghosts}
 use Rattle.hall_laws.specs.HallRuns.{AreDoneFor, AreDone, TurnWasSent, IsSameStore, IsTakenIn}
 use Rattle.hall_laws.specs.Served.{handed_out, all_handed_out, IsSentTo, AreSentTo, StandsFor}
 use Rattle.hall_laws.specs.Stops.{Happening, Answered, Stopped, real_run, with_desk}
-use Rattle.hall_laws.proofs.Calls.{stops_holding, restart_before}
-use Rattle.hall_laws.proofs.HallEntries.{frame_enters}
+use Rattle.hall_laws.proofs.{Calls.stops_holding, Calls.restart_before, HallEntries.frame_enters}
 use Rattle.hall_laws.proofs.OwnMessages.{event_more, front_sent, one_frame}
-use Rattle.hall_laws.proofs.Running.{HasSubmit, event_at, is_event_at, stands_on}
+use Rattle.hall_laws.proofs.Running.{HasSubmit, event_at, is_event_at, stands_by}
+use Rattle.serving.specs.declared.ends.ConnectionEnd.TheVariants as end
+use Rattle.wire.specs.declared.frame.FrameBody.TheVariants as what
 
 -- ---- its store
 
@@ -45,8 +34,7 @@ use Rattle.hall_laws.proofs.Running.{HasSubmit, event_at, is_event_at, stands_on
 -- one after an event.
 abbrev pub Kept : {K : Type 0} → Ghosts K → ℕ → ℕ → List Message → NodeValue K → Type 0
 Kept k n d sent x =
-    HoldsDesk k x.keeper x.desk
-    ⊎ ((event : DeskEvent) × IsSentTo d sent event
+    HoldsDesk k x.keeper x.desk ⊎ ((event : DeskEvent) × IsSentTo d sent event
     × HoldsStep k x.keeper x.desk (step n d x.desk event))
 
 pub kept_more : {K : Type 0} (k : Ghosts K) (n d : ℕ) (sent more : List Message) (x : NodeValue K)
@@ -63,16 +51,11 @@ kept_call {K} k n d w event answer x z h s c kept = by_old x.is_down refl
     fails : x.is_down ≡ false → z.is_down ≡ true → Kept k n d w.sent z
     fails up down =
         let says : answer ≡ Err Down = c.down.1 down in
-        let same : z.desk ≡ x.desk =
-        subst (λ r. OnErr r (z.desk ≡ x.desk)) says (c.takes up).err in
-        let left : HoldsStep k z.keeper x.desk (step_at (k.home_of x.keeper) x.desk event) =
-        c.left up down in
+        let same : z.desk ≡ x.desk = subst (λ r. OnErr r (z.desk ≡ x.desk)) says (c.takes up).err in
+        let left = c.left up down in
         let with_n : HoldsStep k z.keeper x.desk (step n (k.home_of x.keeper).desk x.desk event) =
-        subst
-        (λ a. HoldsStep k z.keeper x.desk (step a (k.home_of x.keeper).desk x.desk event)) h.desks
-        left in
-        let with_d : HoldsStep k z.keeper x.desk (step n d x.desk event) =
-        subst (λ a. HoldsStep k z.keeper x.desk (step n a x.desk event)) h.desk with_n in
+        rw h.desks at left in
+        let with_d : HoldsStep k z.keeper x.desk (step n d x.desk event) = rw h.desk at with_n in
         inr (event, s, subst (λ u. HoldsStep k z.keeper u (step n d u event)) (sym same) with_d)
 
     by_new : x.is_down ≡ false → (b : Bool) → z.is_down ≡ b → Kept k n d w.sent z
@@ -81,8 +64,7 @@ kept_call {K} k n d w event answer x z h s c kept = by_old x.is_down refl
 
     by_old : (b : Bool) → x.is_down ≡ b → Kept k n d w.sent z
     by_old false is = by_new is z.is_down refl
-    by_old true is =
-        subst (λ (u : NodeValue K). Kept k n d w.sent u) (sym (c.ended is).1) kept
+    by_old true is = subst (λ (u : NodeValue K). Kept k n d w.sent u) (sym (c.ended is).1) kept
 
 -- after calls
 pub kept_calls : {K : Type 0} (k : Ghosts K) (n d : ℕ) (w : World) (calls : List Call)
@@ -95,11 +77,9 @@ kept_calls {K} k n d w [] x y h s lead kept =
 kept_calls {K} k n d w (c ∷ cs) x y h s lead kept =
     let z = lead.0 in
     let ms = handed_out c.answer in
-    subst (λ (u : List Message). Kept k n d u y)
-    (append_assoc w.sent ms (all_handed_out cs))
+    subst (λ (u : List Message). Kept k n d u y) (append_assoc w.sent ms (all_handed_out cs))
     (kept_calls k n d (with_desk w d z.desk ms) cs z y
-    (stands_on k n d w c.event c.answer x z ms h lead.1) s.1 lead.2
-    (kept_more k n d w.sent ms z
+    (stands_by k n d w x z ms h lead.1.home) s.1 lead.2 (kept_more k n d w.sent ms z
     (kept_call k n d w c.event c.answer x z h s.0 lead.1 kept)))
 
 pub home_after : {K : Type 0} (k : Ghosts K) (calls : List Call) (x y : NodeValue K)
@@ -114,11 +94,6 @@ ok_named : (n d : ℕ) (r : Result (List Message) NodeFault)
 ok_named n d (Ok ms) h = h
 ok_named n d (Err why) h = tt
 
-both_named : (n d : ℕ) (ms more : List Message) → AreInRange n d ms → AreInRange n d more
-    → AreInRange n d (ms ++ more)
-both_named n d [] more h later = later
-both_named n d (m ∷ ms) more h later = (h.0, both_named n d ms more h.1 later)
-
 call_named : {K : Type 0} (k : Ghosts K) (event : DeskEvent)
     (answer : Result (List Message) NodeFault) (x z : NodeValue K) (b : Bool)
     → x.is_down ≡ b → Handles k x event answer z
@@ -126,8 +101,7 @@ call_named : {K : Type 0} (k : Ghosts K) (event : DeskEvent)
 call_named k event answer x z false is c =
     ok_named (k.home_of x.keeper).desks (k.home_of x.keeper).desk answer (c.takes is).range
 call_named k event answer x z true is c =
-    subst
-    (λ r. AreInRange (k.home_of x.keeper).desks (k.home_of x.keeper).desk (handed_out r))
+    subst (λ r. AreInRange (k.home_of x.keeper).desks (k.home_of x.keeper).desk (handed_out r))
     (sym (c.ended is).0) tt
 
 -- each is from this desk
@@ -137,7 +111,7 @@ pub calls_named : {K : Type 0} (k : Ghosts K) (calls : List Call) (x y : NodeVal
 calls_named k [] x y lead = tt
 calls_named k (c ∷ cs) x y lead =
     let home = k.home_of x.keeper in
-    both_named home.desks home.desk (handed_out c.answer) (all_handed_out cs)
+    AreInRange-append home.desks home.desk (handed_out c.answer) (all_handed_out cs)
     (call_named k c.event c.answer x lead.0 x.is_down refl lead.1)
     (subst (λ z. AreInRange z.desks z.desk (all_handed_out cs)) lead.1.home
     (calls_named k cs lead.0 y lead.2))
@@ -154,15 +128,11 @@ pub record Front {V : Type 0} (way : Way V) (home : Home) (a b : Sides way) (one
 whole_front : {V : Type 0} (way : Way V) (home : Home) (a b : Sides way) (one : Begun)
     (acts : List Act) → Makes home.hall a.outside b.outside (serve_frame home a.seen one).acts
     → acts ≡ (serve_frame home a.seen one).acts → Front way home a b one acts
-whole_front way home a b one acts made is = record {
-  rest = [];
-  parts = sym is ∙ sym (append-nil acts);
-  made = subst (λ z. Makes home.hall a.outside b.outside z) (sym is) made;
-}
+whole_front way home a b one acts made is =
+    record { rest = []; parts = sym is ∙ sym (append-nil acts); made = rw is made }
 
 pub done_front : {V : Type 0} (way : Way V) (e : Option ConnectionEnd) (home : Home)
-    (a b : Sides way)
-    (one : Begun) (count : ℕ) (acts : List Act) → LeavesAt e home a b one count
+    (a b : Sides way) (one : Begun) (count : ℕ) (acts : List Act) → LeavesAt e home a b one count
     → AreDoneFor e home a b one acts → Front way home a b one acts
 done_front way None home a b one count acts l is = whole_front way home a b one acts l.0.made is
 done_front way (Some end.Stopped) home a b one count acts l is =
@@ -173,11 +143,7 @@ done_front way (Some end.Frames) home a b one count acts l is =
     whole_front way home a b one acts l.0.made is
 done_front way (Some end.NoMemory) home a b one count acts l is =
     record { rest = is.0; parts = is.1.parts; made = is.1.made }
-done_front way (Some end.End) home a b one count acts l is = absurd l
-done_front way (Some end.Reads) home a b one count acts l is = absurd l
-done_front way (Some (end.Fault e)) home a b one count acts l is = absurd l
-done_front way (Some end.Read) home a b one count acts l is = absurd l
-done_front way (Some end.Write) home a b one count acts l is = absurd l
+done_front way _ home a b one count acts l is = absurd l
 
 -- The calls of a turn lead from its node to the node after it, each message that they deliver was
 -- sent, the connection's desk stays the same, and what is taken is submitted by the turn's frame.
@@ -193,9 +159,7 @@ does_nothing : {V : Type 0} {way : Way V} (turn : Turn) (a b : Place way) (acts 
     (sent : List Message) → acts ≡ [] → IsQuiet a b → b.talk.home ≡ a.talk.home
     → Does turn a b acts sent
 does_nothing {V} {way} turn a b acts sent none quiet home = record {
-  lead =
-      subst (λ z. Lead way.handles a.outside.node (calls_of z) b.outside.node) (sym none)
-      (ap (λ z. z.node) (sym quiet.outside));
+  lead = rw none (ap (λ z. z.node) (sym quiet.outside));
   were_sent = subst (λ z. AreSentTo a.talk.home.desk sent (calls_of z)) (sym none) tt;
   home = home;
   enters = λ e has. absurd (subst (λ z. IsTakenIn e (calls_of z)) none has);
@@ -250,23 +214,19 @@ pub stops_in : {K : Type 0} (k : Ghosts K) (n d : ℕ) (w : World) (event : Desk
     → StandsFor k n d w (record { keeper = y.keeper; desk = x; is_down = false; told = y.told })
     → IsSentTo d w.sent event → HoldsStep k keeper x (step n d x event)
     → k.may_hold keeper y.desk.stored y.desk.log → k.is_honest keeper
-    → y.desk ≡ opened y.desk.stored y.desk.log
-    → Reopens n d w y
+    → y.desk ≡ opened y.desk.stored y.desk.log → Reopens n d w y
 stops_in k n d w event x keeper y h s holds may honest first =
     let stop =
     stops_holding n d w (event_at d w.sent event s) event x y.desk.stored y.desk.log
-    (k.may_hold keeper) (k.may_break keeper) h.ours (is_event_at d w event s) h.known
-    (subst
-    (λ (u : Desk).
-    HoldsBeforeOrAfter (k.may_hold keeper) (k.may_break keeper) x (step n d u event))
+    (k.may_hold keeper) (k.may_break keeper) h.ours (is_event_at d w event s) h.known (subst
+    (λ (u : Desk). HoldsBeforeOrAfter (k.may_hold keeper) (k.may_break keeper) x (step n d u event))
     h.known (holds honest)) may in (
       Stopped stop.0 (event_at d w.sent event s) ∷ [],
       ap (λ (u : Desk). with_desk w d u []) first ∙ stop.1,
       none stop.0,
     )
   where
-    none : (b : Bool) (e : Entry)
-        → HasSubmit e (Stopped b (event_at d w.sent event s) ∷ []) → ⊥
+    none : (b : Bool) (e : Entry) → HasSubmit e (Stopped b (event_at d w.sent event s) ∷ []) → ⊥
     none b e (inl same) =
         let two : Stopped b (event_at d w.sent event s) ≡ Answered (SubmitAt same.0 e) = same.1 in
         cc
@@ -275,8 +235,7 @@ stops_in k n d w event x keeper y h s holds may honest first =
 pub reopens : {K : Type 0} (k : Ghosts K) (n d : ℕ) (w : World) (x : NodeValue K) (keeper : K)
     (y : NodeValue K)
     → StandsFor k n d w x → Kept k n d w.sent x → IsSameStore k x.keeper keeper y.desk
-    → Opens k keeper y
-    → k.is_honest y.keeper → Reopens n d w y
+    → Opens k keeper y → k.is_honest y.keeper → Reopens n d w y
 reopens k n d w x keeper y h kept same opens honest = go kept
   where
     s : Stored
@@ -294,8 +253,7 @@ reopens k n d w x keeper y h kept same opens honest = go kept
     go : Kept k n d w.sent x → Reopens n d w y
     go (inl holds) =
         let is = (holds was).only s log may in
-        restarts n d w y
-        (restart_before n d w y.desk h.ours
+        restarts n d w y (restart_before n d w y.desk h.ours
         (opens.first ∙ (λ i. opened (is.0 i) (is.1 i)) ∙ ap restarted h.known))
     go (inr one) =
         stops_in k n d w one.0 x.desk x.keeper y

@@ -1,40 +1,80 @@
--- A desk is given a Submit only by a frame that asks for it.
-use Rattle.std.proofs.Common.{◌≡◌, ◌⊎◌, inl, inr, refl, sym, ap, subst, ◌∙◌, ℕ, zero, suc, ◌+◌}
-use Rattle.std.proofs.Common.{Bool, true, false, if◌then◌else◌, List, [], ◌∷◌, ◌++◌, length}
-use Rattle.std.proofs.Common.{map, Option}
-use Rattle.std.proofs.Common.{None, Some, Result, Ok, Err}
-use Rattle.acceptor.specs.declared.entry.Entry.{Entry}
-use Rattle.acceptor.specs.declared.message.Message.{Message}
+-- What a connection may ask; and that a desk is given a Submit only by a frame that asks for it.
+use Rattle.std.proofs.Common.{◌≡◌, ℕ, None, Some, ◌⊎◌, inl, inr, sym, ◌∙◌, ◌+◌, List, [], ◌∷◌, ◌++◌}
+use Rattle.std.proofs.Common.{refl, ap, Bool, true, false, cond, ◌||◌, Option, subst, if◌then◌else◌}
+use Rattle.acceptor.specs.declared.{entry.Entry.Entry, message.Message.Message}
+use Rattle.formats.specs.declared.{events.Event.Event, styles.SheetStyle.SheetStyle}
+use Rattle.wire.specs.declared.{standing.Difference.Difference, frame.FrameBody.FrameBody}
+use Rattle.serving.specs.{Differing.withheld, Differing.withheld_by, Making.Call, Making.calls_of}
+use Rattle.serving.specs.Asking.{ours, strange, request, is_ours}
+use Rattle.serving.specs.Permissions.{admits, enters, permitted, reads, turned_away}
+use Rattle.serving.specs.{declared.permission.Permission.Permission, Nodes.Fate}
+use Rattle.serving.specs.declared.request.Request.{Request, TheVariants.Strange}
+use Rattle.serving.specs.declared.request.Request.TheVariants.{Heard, Lagging, Learned, Entered}
+use Rattle.serving.specs.declared.request.Request.TheVariants.{Printed, Inspected, Copied, Ticked}
 use Rattle.answers.specs.Seen.{Seen}
 use Rattle.learner.specs.declared.event.DeskEvent.{DeskEvent}
 use Rattle.learner.specs.declared.event.DeskEvent.TheVariants.{Submit, Start, Tick, Deliver}
-use Rattle.replica.specs.declared.roles.fault.NodeFault.{NodeFault}
-use Rattle.serving.specs.Asking.{request, is_ours, ours, strange}
 use Rattle.serving.specs.Connection.{asked, Begun, serve_frame}
-use Rattle.serving.specs.Permissions.{permitted}
-use Rattle.serving.specs.Making.{Call, calls_of}
-use Rattle.serving.specs.Nodes.{Fate}
-use Rattle.serving.specs.Serving.{Act, Called, Pushed, Answered, Service, reply_to, call, push_all}
-use Rattle.serving.specs.Serving.{waits}
-use Rattle.serving.specs.Serving.{start_if_grown, grew, take, decided, learn, learn_all, hand_out}
-use Rattle.serving.specs.Serving.{answer_out, tell, entered_by, enter, begun, served}
-use Rattle.serving.specs.Telling.{run_of}
-use Rattle.serving.specs.declared.request.Request.{Request}
-use Rattle.serving.specs.declared.request.Request.TheVariants.{Heard, Lagging, Learned, Entered}
-use Rattle.serving.specs.declared.request.Request.TheVariants.{Asked, Printed, Ticked, Stopped}
-use Rattle.serving.specs.declared.request.Request.TheVariants.{Inspected, Copied, Strange, Ignored}
-use Rattle.serving.specs.declared.request.Request.TheVariants.{Denied, Withheld}
-use Rattle.serving.specs.declared.request.DecidedRun.{DecidedRun}
+use Rattle.serving.specs.Serving.{Act, Called, Service, reply_to, call, decided, served}
 use Rattle.store.specs.declared.home.Home.{Home}
-use Rattle.wire.specs.declared.frame.FrameBody.{FrameBody}
+use Rattle.hall_laws.specs.{HallRuns.IsTakenIn, Arriving.decided_each, Pushing.asks_for}
+use Rattle.hall_laws.proofs.OwnMessages.{calls_both, no_calls}
+use Rattle.hall_laws.proofs.Keeping.{AllMay, served_keeps}
+use Rattle.serving.specs.declared.permission.Permission.TheVariants as permission
 use Rattle.wire.specs.declared.frame.FrameBody.TheVariants as what
-use Rattle.hall_laws.specs.HallRuns.{IsTakenIn}
-use Rattle.hall_laws.proofs.Allowed.{entered_as_asked, entered_where}
-use Rattle.hall_laws.proofs.OwnMessages.{calls_both, no_calls, calls_of_pushes}
+
+-- what only reads is asked as it came on every connection
+pub reads_as_asked : (may : Permission) (r : Request) → reads r ≡ true → permitted may r ≡ r
+reads_as_asked permission.All r is = refl
+reads_as_asked permission.Entries r is = ap (λ z. cond (z || enters r) r (turned_away r)) is
+reads_as_asked permission.Sheets r is = ap (λ z. cond z r (turned_away r)) is
+
+-- what is turned away enters nothing
+never_enters : (r : Request) (e : Entry) → turned_away r ≡ Entered e → ⊥
+never_enters (Heard m) e is = absurd cc
+never_enters _ e is = absurd cc
+
+-- what a connection enters, its frame asked to enter
+pub entered_as_asked : (may : Permission) (r : Request) (e : Entry)
+    → permitted may r ≡ Entered e → r ≡ Entered e
+entered_as_asked may r e is = by (admits may r) is
+  where
+    by : (b : Bool) → cond b r (turned_away r) ≡ Entered e → r ≡ Entered e
+    by true is = is
+    by false is = absurd (never_enters r e is)
+
+-- where a desk differs too, and what is asked there for a sheet or entries is asked as it came
+withheld_enters : (d : Difference) (r : Request) (e : Entry) → withheld_by d r ≡ Entered e
+    → r ≡ Entered e
+withheld_enters d (Entered f) e is = absurd cc
+withheld_enters d (Inspected differs) e is = absurd cc
+withheld_enters d _ e is = is
+
+pub entered_where : (differs : Option Difference) (r : Request) (e : Entry)
+    → withheld differs r ≡ Entered e → r ≡ Entered e
+entered_where None r e is = is
+entered_where (Some d) r e is = withheld_enters d r e is
+
+pub printed_where : (differs : Option Difference) (event : Event) (round position : ℕ)
+    (style : SheetStyle) → withheld differs (Printed event round position style)
+    ≡ Printed event round position style
+printed_where None event round position style = refl
+printed_where (Some d) event round position style = refl
+
+pub copied_where : (differs : Option Difference) (position : ℕ)
+    → withheld differs (Copied position) ≡ Copied position
+copied_where None position = refl
+copied_where (Some d) position = refl
+
+-- ---- A desk is given a Submit only by a frame that asks for it.
 
 -- what is taken in these calls is asked for
 abbrev TakesOnly : (Entry → Type 0) → List Act → Type 0
 TakesOnly asks acts = (e : Entry) → IsTakenIn e (calls_of acts) → asks e
+
+-- what the event submits is asked for
+abbrev Asks : (Entry → Type 0) → DeskEvent → Type 0
+Asks asks event = (e : Entry) → event ≡ Submit e → asks e
 
 taken_in : (e : Entry) (cs ds : List Call) → IsTakenIn e (cs ++ ds)
     → IsTakenIn e cs ⊎ IsTakenIn e ds
@@ -53,8 +93,7 @@ taken_front e (c ∷ cs) ds (inr h) = inr (taken_front e cs ds h)
 
 only_quiet : (asks : Entry → Type 0) (acts more : List Act) → calls_of more ≡ []
     → TakesOnly asks acts → TakesOnly asks (acts ++ more)
-only_quiet asks acts more none h e has =
-    h e (subst (λ z. IsTakenIn e z) (no_calls acts more none) has)
+only_quiet asks acts more none h e has = h e (rw (no_calls acts more none) at has)
 
 only_call : (asks : Entry → Type 0) (home : Home) (event : DeskEvent) (s : Service)
     → TakesOnly asks s.done → ((e : Entry) → event ≡ Submit e → asks e)
@@ -80,107 +119,34 @@ not_tick asks e is = absurd (let two : Tick ≡ Submit e = is in cc)
 not_message : (asks : Entry → Type 0) (m : Message) (e : Entry) → Deliver m ≡ Submit e → asks e
 not_message asks m e is = absurd (let two : Deliver m ≡ Submit e = is in cc)
 
-only_push : (asks : Entry → Type 0) (s : Service) → TakesOnly asks s.done
-    → TakesOnly asks (push_all s).done
-unfolding push_all
-only_push asks s h =
-    only_quiet asks s.done (map (λ m. Pushed m) s.waiting) (calls_of_pushes s.waiting) h
-
-only_start : (asks : Entry → Type 0) (home : Home) (before : ℕ) (s : Service)
-    → TakesOnly asks s.done → TakesOnly asks (start_if_grown home before s).done
-unfolding start_if_grown
-only_start asks home before s h = go (grew before s.seen)
-  where
-    go : (b : Bool)
-        → TakesOnly asks (if b then push_all (call home Start s) else s).done
-    go true =
-        only_push asks (call home Start s)
-        (only_call asks home Start s h (not_start asks))
-    go false = h
-
-only_take : (asks : Entry → Type 0) (home : Home) (event : DeskEvent) (s : Service)
-    → TakesOnly asks s.done → ((e : Entry) → event ≡ Submit e → asks e)
-    → TakesOnly asks (take home event s).done
-unfolding take
-only_take asks home event s h is =
-    let called = call home event s in
-    only_start asks home (length s.seen.desk.log) (push_all called)
-    (only_push asks called (only_call asks home event s h is))
-
-only_learn : (asks : Entry → Type 0) (home : Home) (from to pos : ℕ) (es : List Entry)
-    (s : Service) → TakesOnly asks s.done → TakesOnly asks (learn home from to pos es s).done
-unfolding learn
-only_learn asks home from to pos [] s h = h
-only_learn asks home from to pos (e ∷ es) s h =
-    go (call home (decided from to pos e) (waits [] s)).seen.is_down
-    (λ t. only_learn asks home from to (pos + 1) es t)
-  where
-    called : Service
-    called = call home (decided from to pos e) (waits [] s)
-
-    kept : TakesOnly asks called.done
-    kept =
-        only_call asks home (decided from to pos e) (waits [] s) h
-        (λ f is. absurd (let two : decided from to pos e ≡ Submit f = is in cc))
-
-    go : (b : Bool)
-        → ((t : Service) → TakesOnly asks t.done
-        → TakesOnly asks (learn home from to (pos + 1) es t).done)
-        → TakesOnly asks (if b then called else learn home from to (pos + 1) es called).done
-    go true later = kept
-    go false later = later called kept
-
-only_hand_out : (asks : Entry → Type 0) (home : Home) (o : Option DecidedRun) (s : Service)
-    → TakesOnly asks s.done → TakesOnly asks (hand_out o s).done
-only_hand_out asks home None s h = only_push asks s h
-only_hand_out asks home (Some run) s h = only_quiet asks s.done (Answered run ∷ []) refl h
-
-only_entered : (asks : Entry → Type 0) (home : Home) (r : Result (List Message) NodeFault)
-    (s : Service) → TakesOnly asks s.done → TakesOnly asks (entered_by home r s).done
-only_entered asks home (Ok ms) s h =
-    only_push asks (call home Start s)
-    (only_call asks home Start s h (not_start asks))
-only_entered asks home (Err why) s h = h
+none_submits : (asks : Entry → Type 0) (from to pos : ℕ) (es : List Entry)
+    → AllMay (Asks asks) (decided_each from to pos es)
+none_submits asks from to pos [] = tt
+none_submits asks from to pos (e ∷ es) = (
+  λ f is. absurd (let two : decided from to pos e ≡ Submit f = is in cc),
+  none_submits asks from to (pos + 1) es,
+)
 
 -- what the calls of a request take is what it enters
 pub entered_only : (home : Home) (x : Seen) (fates : List Fate) (r : Request)
     → TakesOnly (λ e. r ≡ Entered e) (served home x fates r).done
-unfolding tell answer_out learn_all enter
-entered_only home x fates (Heard m) =
-    only_take (λ e. Heard m ≡ Entered e) home (Deliver m) (begun x fates) (λ e none. absurd none)
-    (not_message (λ e. Heard m ≡ Entered e) m)
-entered_only home x fates (Lagging m) =
-    let asks : Entry → Type 0 = λ e. Lagging m ≡ Entered e in
-    let first = call home (Deliver m) (begun x fates) in
-    only_start asks home (length x.desk.log) (hand_out (run_of home.desk first.waiting) first)
-    (only_hand_out asks home (run_of home.desk first.waiting) first
-    (only_call asks home (Deliver m) (begun x fates) (λ e none. absurd none)
-    (not_message asks m)))
-entered_only home x fates (Learned run) =
-    let asks : Entry → Type 0 = λ e. Learned run ≡ Entered e in
-    let learned = learn home run.from run.to run.pos run.entries (begun x fates) in
-    only_start asks home (length x.desk.log) (push_all learned)
-    (only_push asks learned
-    (only_learn asks home run.from run.to run.pos run.entries (begun x fates)
-    (λ e none. absurd none)))
-entered_only home x fates (Entered f) =
-    let asks : Entry → Type 0 = λ e. Entered f ≡ Entered e in
-    only_entered asks home (reply_to home (Submit f) (begun x fates)).result
-    (call home (Submit f) (begun x fates))
-    (only_call asks home (Submit f) (begun x fates) (λ e none. absurd none)
-    (λ e is. let same : f ≡ e = cc in ap (λ z. Entered z) same))
-entered_only home x fates Ticked =
-    only_take (λ e. Ticked ≡ Entered e) home Tick (begun x fates) (λ e none. absurd none)
-    (not_tick (λ e. Ticked ≡ Entered e))
-entered_only home x fates (Asked id) = λ e none. absurd none
-entered_only home x fates (Printed event round position style) = λ e none. absurd none
-entered_only home x fates Stopped = λ e none. absurd none
-entered_only home x fates (Inspected differs) = λ e none. absurd none
-entered_only home x fates (Copied position) = λ e none. absurd none
-entered_only home x fates Strange = λ e none. absurd none
-entered_only home x fates Ignored = λ e none. absurd none
-entered_only home x fates Denied = λ e none. absurd none
-entered_only home x fates Withheld = λ e none. absurd none
+entered_only home x fates r =
+    served_keeps home (Asks (λ e. r ≡ Entered e)) (λ s. TakesOnly (λ e. r ≡ Entered e) s.done)
+    (record {
+      calls = λ event s may h. only_call (λ e. r ≡ Entered e) home event s h may;
+      adds = λ acts s none h. only_quiet (λ e. r ≡ Entered e) s.done acts none h;
+      drops = λ s h. h;
+      starts = not_start (λ e. r ≡ Entered e);
+    }) x fates r (by r) (λ e none. absurd none)
+  where
+    by : (q : Request) → AllMay (Asks (λ e. q ≡ Entered e)) (asks_for q)
+    by (Heard m) = (not_message (λ e. Heard m ≡ Entered e) m, tt)
+    by (Lagging m) = (not_message (λ e. Lagging m ≡ Entered e) m, tt)
+    by (Learned run) =
+        none_submits (λ e. Learned run ≡ Entered e) run.from run.to run.pos run.entries
+    by (Entered f) = (λ e is. let same : f ≡ e = cc in ap (λ z. Entered z) same, tt)
+    by Ticked = (not_tick (λ e. Ticked ≡ Entered e), tt)
+    by _ = tt
 
 -- a frame that enters an entry is a Submit of it
 ours_enter : (from to : ℕ) (w : FrameBody) (e : Entry) → ours from to w ≡ Entered e

@@ -1,46 +1,30 @@
 -- A small run of a hall.
-use Rattle.std.proofs.Common.{◌≡◌, ◌≢◌, inl, inr, refl, sym, ap, subst, ◌∙◌, ℕ, zero, suc, Bool}
-use Rattle.std.proofs.Common.{true, false, if◌then◌else◌, eqb, List, [], ◌∷◌, ◌++◌, Some}
-use Rattle.std.proofs.Common.{None, Ok, Err, slice_get, arith, take as front}
-use Rattle.std.proofs.lemmas.Bool.{ne_eqb}
-use Rattle.std.specs.List.{AllByRecursion}
+use Rattle.std.proofs.Common.{◌≡◌, inl, inr, refl, sym, ap, subst, ◌∙◌, ℕ, zero, suc, true, false}
+use Rattle.std.proofs.Common.{if◌then◌else◌, eqb, List, [], ◌∷◌, ◌++◌, Some, None, Ok, Err, arith}
+use Rattle.std.{proofs.Common.slice_get, proofs.Common.take as front, specs.List.AllByRecursion}
 use Rattle.acceptor.specs.declared.message.Message.{Message}
 use Rattle.answers.specs.Seen.{Seen}
-use Rattle.learner.specs.Desks.{first_desk}
-use Rattle.learner.specs.Ranges.{AreInRange}
-use Rattle.learner.specs.Steps.{IsDesk, step}
-use Rattle.learner.specs.declared.event.DeskEvent.{DeskEvent}
-use Rattle.learner.specs.declared.event.DeskEvent.TheVariants.{Tick, Deliver}
-use Rattle.replica.specs.Handles.{Handles, Takes, FitInFrames}
-use Rattle.replica.specs.Settles.{Settles}
-use Rattle.replica.specs.Lengths.{nothing_told, told_by}
-use Rattle.replica.specs.Nodes.{NodeValue}
-use Rattle.replica.specs.Stores.{HoldsDesk}
-use Rattle.serving.specs.declared.permission.Permission.TheVariants.{All}
+use Rattle.learner.specs.{Desks.first_desk, Ranges.AreInRange, Steps.IsDesk, Steps.step}
+use Rattle.learner.specs.declared.event.DeskEvent.{DeskEvent, TheVariants.Tick, TheVariants.Deliver}
+use Rattle.replica.specs.{Handles.Handles, Settles.Settles, Nodes.NodeValue, Stores.HoldsDesk}
+use Rattle.replica.specs.{Handles.FitInFrames, Lengths.told_by, Lengths.nothing_told}
+use Rattle.serving.specs.{declared.permission.Permission.TheVariants.All, Serving.tell}
+use Rattle.serving.specs.Serving.{answer_out, Act, Called, call, push_all, start_if_grown, take}
 use Rattle.serving.specs.Connection.{serve_frame, close_of, answer_bytes, Begun}
 use Rattle.serving.specs.Making.{calls_of, outside_of, speaking}
-use Rattle.serving.specs.Serving.{Act, Called, call, push_all, start_if_grown, take, tell}
-use Rattle.serving.specs.Serving.{answer_out}
-use Rattle.serving.specs.Telling.{run_of, entries_told}
-use Rattle.serving.specs.Turns.{Talk, new_talk}
+use Rattle.serving.specs.{Telling.run_of, Telling.entries_told, Turns.Talk, Turns.new_talk}
 use Rattle.serving.specs.TurnLaw.{Place, Came, Turns}
-use Rattle.connections.specs.Connections.{Goes, place_of}
-use Rattle.store.specs.declared.home.Home.{Home}
-use Rattle.store.specs.declared.keeper.Keeper.{Ghosts}
-use Rattle.wire.specs.Ranges.{IsFrame}
-use Rattle.wire.specs.Spelling.{spelling}
-use Rattle.wire.specs.declared.frame.Frame.{Frame}
-use Rattle.wire.specs.declared.values.Version.TheVariants.{Two}
+use Rattle.store.specs.declared.{home.Home.Home, keeper.Keeper.Ghosts}
+use Rattle.wire.specs.{Ranges.IsFrame, Spelling.spelling}
+use Rattle.wire.specs.declared.{frame.Frame.Frame, values.Version.TheVariants.Two}
 use Rattle.hall_laws.specs.Differing.{IsBrought, IsGiven, IsHeardIn, SmallRunComesInOrder}
-use Rattle.hall_laws.specs.Differing.{WereSentInOrder}
+use Rattle.hall_laws.{specs.Differing.WereSentInOrder, proofs.HallFrames.takes_turn_as}
+use Rattle.hall_laws.proofs.HallFrames.{talk_there, begun_whole, came_whole, other_talks, talk_with}
 use Rattle.hall_laws.specs.HallExample.{third_home, three_desks, tick_frame, says, said_frame}
 use Rattle.hall_laws.specs.HallExample.{first_of, begun_as, tick_acts, SmallRunIsARun}
-use Rattle.hall_laws.specs.HallRuns.{Station, Hall, HallEvent, HallStep, IsHallRun, TurnAt}
-use Rattle.hall_laws.specs.HallRuns.{TickedAt}
-use Rattle.hall_laws.specs.HallRuns.{seen_of, IsTick, AreDone, TurnWasSent, HallGoes, acts_of}
-use Rattle.hall_laws.specs.HallRuns.{connections, desk_of}
-use Rattle.hall_laws.proofs.HallFrames.{came_whole, talk_with}
-use Rattle.hall_laws.proofs.HallTurns.{with_station, takes_turn, ticks_itself}
+use Rattle.hall_laws.specs.HallRuns.{Station, HallEvent, HallStep, IsHallRun, TickedAt, TurnWasSent}
+use Rattle.hall_laws.specs.HallRuns.{Hall, TurnAt, seen_of, IsTick, HallGoes, acts_of, desk_of}
+use Rattle.hall_laws.proofs.HallGoing.{with_station, ticks_itself}
 
 abbrev pub first_node : {K : Type 0} → K → NodeValue K
 first_node keeper =
@@ -54,20 +38,16 @@ first_seen = record { desk = first_desk; is_down = false; told = nothing_told }
 pub still : {K : Type 0} (k : Ghosts K) (keeper : K) (d : ℕ) (event : DeskEvent) (ms : List Message)
     → k.home_of keeper ≡ third_home d → HoldsDesk k keeper first_desk
     → step 3 d first_desk event ≡ Ok (record { desk = first_desk; messages = ms })
-    → told_by (third_home d) event nothing_told ≡ nothing_told
-    → AreInRange 3 d ms → FitInFrames ms
+    → told_by (third_home d) event nothing_told ≡ nothing_told → AreInRange 3 d ms → FitInFrames ms
     → Handles k (first_node keeper) event (Ok ms) (first_node keeper)
 still {K} k keeper d event ms home holds steps told range fits = record {
   ended = λ down. absurd (let two : false ≡ true = down in cc);
   takes = λ up.
-      subst
-      (λ (z : Home).
-      Takes (step z.desks z.desk first_desk event) z.desks z.desk first_desk first_desk (Ok ms))
-      (sym home)
-      (record {
+      rw home (record {
         ok = steps;
         range = range;
-        refused = λ why. (λ is. absurd (no_fault is), λ is. absurd (no_fault (sym steps ∙ is)));
+        refused = λ why.
+            (λ is. absurd (no_fault is), λ is. absurd (no_fault (sym steps ∙ is)));
         err = tt;
       });
   entries = fits;
@@ -104,35 +84,20 @@ as_begun f = record { frame = f; may = All; differs = None; fates = [] }
 
 -- what the frame is answered
 abbrev pub answer_to : Home → Frame → List ℕ
-answer_to home f =
-    answer_bytes (serve_frame home first_seen (as_begun f)).answers
+answer_to home f = answer_bytes (serve_frame home first_seen (as_begun f)).answers
 
+-- a frame is begun, in a call that changes nothing
 ticks : {K : Type 0} (k : Ghosts K) (keeper : K)
     → Handles k (first_node keeper) Tick (Ok (says 2 ∷ says 3 ∷ [])) (first_node keeper)
     → Turns (begun_as tick_frame)
     (place_in k keeper (talk_of (third_home 1) (tick_frame ∷ []) 0 []))
     (place_in k keeper (talk_of (third_home 1) [] 1 (answer_to (third_home 1) tick_frame)))
 unfolding serve_frame close_of call push_all start_if_grown take
-ticks k keeper handles = (
-  record {
-    free = record { unended = refl; taken = refl };
-    next = refl;
-    counted = refl;
-    few = omega arith;
-    home = refl;
-    wire = refl;
-    stream = refl;
-  },
-  (
-    record {
-      close = refl;
-      answered = refl;
-      made = record { calls = (first_node keeper, handles, refl); pushes = tt };
-      node = refl;
-    },
-    omega arith,
-  ),
-)
+ticks k keeper handles =
+    begun_whole (speaking (Handles k) (Settles k) Two) (third_home 1) Two tick_frame first_seen
+    first_seen (outside_of (speaking (Handles k) (Settles k) Two) (first_node keeper) None)
+    (outside_of (speaking (Handles k) (Settles k) Two) (first_node keeper) None) refl
+    (record { calls = (first_node keeper, handles, refl); pushes = tt }) refl
 
 pub hears : {K : Type 0} (k : Ghosts K) (keeper : K)
     → Handles k (first_node keeper) (Deliver (says 2)) (Ok []) (first_node keeper)
@@ -140,39 +105,22 @@ pub hears : {K : Type 0} (k : Ghosts K) (keeper : K)
     (place_in k keeper (talk_of (third_home 2) (said_frame ∷ []) 0 []))
     (place_in k keeper (talk_of (third_home 2) [] 1 (answer_to (third_home 2) said_frame)))
 unfolding serve_frame close_of call push_all start_if_grown tell answer_out run_of entries_told
-hears k keeper handles = (
-  record {
-    free = record { unended = refl; taken = refl };
-    next = refl;
-    counted = refl;
-    few = omega arith;
-    home = refl;
-    wire = refl;
-    stream = refl;
-  },
-  (
-    record {
-      close = refl;
-      answered = refl;
-      made = record { calls = (first_node keeper, handles, refl); pushes = tt };
-      node = refl;
-    },
-    omega arith,
-  ),
-)
+hears k keeper handles =
+    begun_whole (speaking (Handles k) (Settles k) Two) (third_home 2) Two said_frame first_seen
+    first_seen (outside_of (speaking (Handles k) (Settles k) Two) (first_node keeper) None)
+    (outside_of (speaking (Handles k) (Settles k) Two) (first_node keeper) None) refl
+    (record { calls = (first_node keeper, handles, refl); pushes = tt }) refl
 
 -- ---- the run
 
 abbrev hear_acts : List Act
 hear_acts = Called (Deliver (says 2)) (Ok []) ∷ []
 
-pub ticks_so : tick_acts
-    ≡ (serve_frame (third_home 1) first_seen (as_begun tick_frame)).acts
+pub ticks_so : tick_acts ≡ (serve_frame (third_home 1) first_seen (as_begun tick_frame)).acts
 unfolding serve_frame call push_all start_if_grown take
 ticks_so = refl
 
-pub hears_so : hear_acts
-    ≡ (serve_frame (third_home 2) first_seen (as_begun said_frame)).acts
+pub hears_so : hear_acts ≡ (serve_frame (third_home 2) first_seen (as_begun said_frame)).acts
 unfolding serve_frame call push_all start_if_grown tell answer_out run_of entries_told
 hears_so = refl
 
@@ -193,8 +141,7 @@ hall_1 keeper =
 
 abbrev hall_2 : {K : Type 0} → (ℕ → K) → Hall K
 hall_2 keeper =
-    with_station (hall_1 keeper) 1
-    (station (keeper 1) 1
+    with_station (hall_1 keeper) 1 (station (keeper 1) 1
     (talk_of (third_home 1) [] 1 (answer_to (third_home 1) tick_frame))) tick_acts
 
 abbrev hall_3 : {K : Type 0} → (ℕ → K) → Hall K
@@ -204,24 +151,13 @@ hall_3 keeper =
 
 abbrev hall_4 : {K : Type 0} → (ℕ → K) → Hall K
 hall_4 keeper =
-    with_station (hall_3 keeper) 2
-    (station (keeper 2) 2
+    with_station (hall_3 keeper) 2 (station (keeper 2) 2
     (talk_of (third_home 2) [] 1 (answer_to (third_home 2) said_frame))) hear_acts
 
 abbrev hall_5 : {K : Type 0} → (ℕ → K) → Hall K
 hall_5 keeper =
-    with_station (hall_4 keeper) 1
-    (station (keeper 1) 1
+    with_station (hall_4 keeper) 1 (station (keeper 1) 1
     (talk_of (third_home 1) [] 1 (answer_to (third_home 1) tick_frame))) tick_acts
-
-only_zero : (a b c : Talk) (j : ℕ) → j ≢ 0
-    → (if eqb j 0 then a else b) ≡ (if eqb j 0 then c else b)
-only_zero a b c j other =
-    ap (λ (t : Bool). if t then a else b) (ne_eqb j 0 other)
-    ∙ sym (ap (λ (t : Bool). if t then c else b) (ne_eqb j 0 other))
-
-only_one : (a b : Talk) (j : ℕ) → j ≢ 0 → (if eqb j 0 then a else b) ≡ b
-only_one a b j other = ap (λ (t : Bool). if t then a else b) (ne_eqb j 0 other)
 
 pub one_of_three : IsDesk 3 1
 one_of_three = (omega arith, omega arith)
@@ -230,11 +166,7 @@ pub two_of_three : IsDesk 3 2
 two_of_three = (omega arith, omega arith)
 
 tick_is_frame : IsFrame tick_frame
-tick_is_frame = record {
-  hall = omega arith;
-  goes = (refl, (omega arith, omega arith));
-  body = tt;
-}
+tick_is_frame = record { hall = omega arith; goes = (refl, (omega arith, omega arith)); body = tt }
 
 pub said_is_frame : IsFrame said_frame
 said_is_frame = record {
@@ -251,16 +183,11 @@ small_steps keeper =
       after = hall_1 keeper;
     }
     ∷ record { event = TurnAt 1 (first_of (begun_as tick_frame)) tick_acts; after = hall_2 keeper }
-    ∷ record {
-      event = TurnAt 2 (first_of (Came (spelling said_frame))) [];
-      after = hall_3 keeper;
-    }
+    ∷ record { event = TurnAt 2 (first_of (Came (spelling said_frame))) []; after = hall_3 keeper }
     ∷ record { event = TurnAt 2 (first_of (begun_as said_frame)) hear_acts; after = hall_4 keeper }
-    ∷ record { event = TickedAt 1 (as_begun tick_frame) tick_acts; after = hall_5 keeper }
-    ∷ []
+    ∷ record { event = TickedAt 1 (as_begun tick_frame) tick_acts; after = hall_5 keeper } ∷ []
 
-small_run_taken : {K : Type 0} (k : Ghosts K) (keeper : ℕ → K)
-    → ((d : ℕ) → IsDesk 3 d
+small_run_taken : {K : Type 0} (k : Ghosts K) (keeper : ℕ → K) → ((d : ℕ) → IsDesk 3 d
     → (k.home_of (keeper d) ≡ third_home d) × HoldsDesk k (keeper d) first_desk)
     → IsHallRun k 3 (three_desks keeper) (small_steps keeper)
 small_run_taken {K} k keeper own = record {
@@ -295,10 +222,7 @@ small_run_taken {K} k keeper own = record {
     named : AreInRange 3 1 (says 2 ∷ says 3 ∷ [])
     named = (
       (refl, record { from = one_of_three; to = two_of_three; body = refl }),
-      (
-        (refl, record { from = one_of_three; to = (omega arith, omega arith); body = refl }),
-        tt,
-      ),
+      ((refl, record { from = one_of_three; to = (omega arith, omega arith); body = refl }), tt),
     )
 
     fits : FitInFrames (says 2 ∷ says 3 ∷ [])
@@ -312,55 +236,57 @@ small_run_taken {K} k keeper own = record {
         still k (keeper 1) 1 Tick (says 2 ∷ says 3 ∷ []) (own 1 one_of_three).0
         (own 1 one_of_three).1 refl refl named fits
 
-    handles_2 : Handles k (first_node (keeper 2)) (Deliver (says 2)) (Ok [])
-        (first_node (keeper 2))
+    handles_2 : Handles k (first_node (keeper 2)) (Deliver (says 2)) (Ok []) (first_node (keeper 2))
     handles_2 =
         still k (keeper 2) 2 (Deliver (says 2)) [] (own 2 two_of_three).0
         (own 2 two_of_three).1 refl refl tt (λ j m less. absurd (omega arith))
+
+    new : ℕ → ℕ → Talk
+    new d j = new_talk (third_home d) Two
 
     -- the bytes of a frame come to a desk that had no turn
     bytes_come : (d : ℕ) (f : Frame) (w : Hall K) → IsDesk 3 d → IsFrame f
         → w.desks d ≡ (three_desks keeper).desks d
         → HallGoes k 3 (TurnAt d (first_of (Came (spelling f))) []) w
         (with_station w d (station (keeper d) d (talk_of (third_home d) (f ∷ []) 0 [])) [])
-    bytes_come d f w ours is new =
-        let now = talk_of (third_home d) (f ∷ []) 0 [] in
-        let way = speaking (Handles k) (Settles k) Two in
-        let outside = outside_of (speaking (Handles k) (Settles k) Two)
-        (first_node (keeper d)) None in
-        takes_turn k 3 d w (first_of (Came (spelling f))) (station (keeper d) d now) [] ours
-        (sym (ap (λ z. z.wire) new))
-        (subst
-        (λ z. Goes (first_of (Came (spelling f))) (connections k z.wire z)
-        (connections k z.wire (station (keeper d) d now)))
-        (sym new)
+    bytes_come d f w ours is first =
+        takes_turn_as k 3 d w (first_of (Came (spelling f))) ((three_desks keeper).desks d)
+        (station (keeper d) d (talk_of (third_home d) (f ∷ []) 0 [])) [] first ours refl
         (record {
-          turn = came_whole way (seen_of (first_node (keeper d))) outside (third_home d) Two f is;
-          others = λ j other. only_one now (new_talk (third_home d) Two) j other;
-        }))
-        (subst
-        (λ z. AreDone (Came (spelling f)) (place_of (connections k z.wire z) 0)
-        (place_of (connections k z.wire (station (keeper d) d now)) 0) [])
-        (sym new) refl)
-        tt
+          turn =
+              came_whole (speaking (Handles k) (Settles k) Two) (seen_of (first_node (keeper d)))
+              (outside_of (speaking (Handles k) (Settles k) Two) (first_node (keeper d)) None)
+              (third_home d) Two f is;
+          others = λ j other. talk_there (new d) 0 j (talk_of (third_home d) (f ∷ []) 0 []) other;
+        }) refl tt
+
+    -- and the frame is begun
+    begins : (d : ℕ) (f : Frame) (acts : List Act) (w : Hall K) → IsDesk 3 d
+        → w.desks d ≡ station (keeper d) d (talk_of (third_home d) (f ∷ []) 0 [])
+        → Turns (begun_as f) (place_in k (keeper d) (talk_of (third_home d) (f ∷ []) 0 []))
+        (place_in k (keeper d) (talk_of (third_home d) [] 1 (answer_to (third_home d) f)))
+        → acts ≡ (serve_frame (third_home d) first_seen (as_begun f)).acts
+        → TurnWasSent (k.home_of (keeper d)) w.sent (begun_as f)
+        → HallGoes k 3 (TurnAt d (first_of (begun_as f)) acts) w (with_station w d
+        (station (keeper d) d (talk_of (third_home d) [] 1 (answer_to (third_home d) f))) acts)
+    begins d f acts w ours waits turn done brings =
+        let past = talk_of (third_home d) [] 1 (answer_to (third_home d) f) in
+        takes_turn_as k 3 d w (first_of (begun_as f))
+        (station (keeper d) d (talk_of (third_home d) (f ∷ []) 0 [])) (station (keeper d) d past)
+        acts waits ours refl
+        (record {
+          turn = turn;
+          others = λ j other.
+              other_talks (new d) 0 j past (talk_of (third_home d) (f ∷ []) 0 []) other;
+        }) done brings
 
     first_turn : HallGoes k 3 one (three_desks keeper) (hall_1 keeper)
     first_turn = bytes_come 1 tick_frame (three_desks keeper) one_of_three tick_is_frame refl
 
     second_turn : HallGoes k 3 two (hall_1 keeper) (hall_2 keeper)
     second_turn =
-        takes_turn k 3 1 (hall_1 keeper) (first_of (begun_as tick_frame))
-        (station (keeper 1) 1
-        (talk_of (third_home 1) [] 1 (answer_to (third_home 1) tick_frame))) tick_acts
-        one_of_three refl
-        (record {
-          turn = ticks k (keeper 1) handles_1;
-          others = λ j other.
-              only_zero (talk_of (third_home 1) [] 1 (answer_to (third_home 1) tick_frame))
-              (new_talk (third_home 1) Two)
-              (talk_of (third_home 1) (tick_frame ∷ []) 0 []) j other;
-        })
-        ticks_so
+        begins 1 tick_frame tick_acts (hall_1 keeper) one_of_three refl
+        (ticks k (keeper 1) handles_1) ticks_so
         (subst (λ z. TurnWasSent z [] (begun_as tick_frame)) (sym (own 1 one_of_three).0) tt)
 
     third_turn : HallGoes k 3 three (hall_2 keeper) (hall_3 keeper)
@@ -368,29 +294,17 @@ small_run_taken {K} k keeper own = record {
 
     fourth_turn : HallGoes k 3 four (hall_3 keeper) (hall_4 keeper)
     fourth_turn =
-        takes_turn k 3 2 (hall_3 keeper) (first_of (begun_as said_frame))
-        (station (keeper 2) 2
-        (talk_of (third_home 2) [] 1 (answer_to (third_home 2) said_frame))) hear_acts
-        two_of_three refl
-        (record {
-          turn = hears k (keeper 2) handles_2;
-          others = λ j other.
-              only_zero (talk_of (third_home 2) [] 1 (answer_to (third_home 2) said_frame))
-              (new_talk (third_home 2) Two)
-              (talk_of (third_home 2) (said_frame ∷ []) 0 []) j other;
-        })
-        hears_so
+        begins 2 said_frame hear_acts (hall_3 keeper) two_of_three refl
+        (hears k (keeper 2) handles_2) hears_so
         (subst (λ z. TurnWasSent z (says 2 ∷ says 3 ∷ []) (begun_as said_frame))
         (sym (own 2 two_of_three).0) ((1, refl, refl), tt))
 
     own_tick : HallGoes k 3 five (hall_4 keeper) (hall_5 keeper)
     own_tick =
-        ticks_itself k 3 1 (hall_4 keeper) (as_begun tick_frame) tick_acts []
-        (station (keeper 1) 1
+        ticks_itself k 3 1 (hall_4 keeper) (as_begun tick_frame) tick_acts [] (station (keeper 1) 1
         (talk_of (third_home 1) [] 1 (answer_to (third_home 1) tick_frame)))
         one_of_three refl (λ j. refl)
-        (subst (λ z. IsTick z (as_begun tick_frame)) (sym (own 1 one_of_three).0) refl)
-        (subst
+        (subst (λ z. IsTick z (as_begun tick_frame)) (sym (own 1 one_of_three).0) refl) (subst
         (λ z. (serve_frame z first_seen (as_begun tick_frame)).acts ≡ tick_acts ++ [])
         (sym (own 1 one_of_three).0) (sym ticks_so))
         (record { calls = (first_node (keeper 1), handles_1, refl); pushes = tt })
@@ -410,8 +324,7 @@ given_says m (inr none) = absurd none
 
 -- what is heard in a step at desk 2
 abbrev HearsSays : {K : Type 0} → Message → HallStep K → Type 0
-HearsSays m s =
-    desk_of s.event ≡ 2 → IsHeardIn m (calls_of (acts_of s.event)) → says 2 ≡ m
+HearsSays m s = desk_of s.event ≡ 2 → IsHeardIn m (calls_of (acts_of s.event)) → says 2 ≡ m
 
 each_step : {K : Type 0} (m : Message) (ss : List (HallStep K))
     → AllByRecursion (λ (s : HallStep K). HearsSays m s) ss → (at : ℕ) (step : HallStep K)
@@ -444,8 +357,7 @@ small_run_comes_in_order {K} k keeper own = (
     after_heard = λ m x same was given.
         order m x
         (each_step m (front 4 (small_steps keeper)) (heard_says keeper m) was.at was.step was.here
-        was.desk was.heard)
-        (given_says x given);
+        was.desk was.heard) (given_says x given);
   },
 )
   where
@@ -453,8 +365,7 @@ small_run_comes_in_order {K} k keeper own = (
     one_says m (inl given) = given_says m given
     one_says m (inr none) = absurd none
 
-    order : (m x : Message) → says 2 ≡ m → says 2 ≡ x
-        → WereSentInOrder (hall_5 keeper).sent m x
+    order : (m x : Message) → says 2 ≡ m → says 2 ≡ x → WereSentInOrder (hall_5 keeper).sent m x
     order m x first second = record {
       first = 1;
       second = 3;

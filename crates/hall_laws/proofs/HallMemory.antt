@@ -1,53 +1,42 @@
 -- Halls of desks over keepers that never fail can serve what a majority asks by itself.
-use Rattle.std.proofs.Common.{◌≡◌, inl, inr, refl, sym, ap, subst, ◌∙◌, ℕ, zero, suc}
+use Rattle.std.proofs.Common.{◌≡◌, ◌≤◌, false, inl, inr, refl, sym, ap, subst, ◌∙◌, ℕ, zero, suc}
 use Rattle.std.proofs.Common.{List, [], ◌∷◌, ◌++◌, length, map, Option, None, Some, arith}
 use Rattle.std.proofs.lemmas.List.{append-nil, append_assoc}
-use Rattle.acceptor.specs.declared.entry.Entry.{Entry}
-use Rattle.acceptor.specs.declared.message.Body.{Body}
-use Rattle.acceptor.specs.declared.message.Body.TheVariants.{Prepare, Promise, Accept, Accepted}
-use Rattle.acceptor.specs.declared.message.Body.TheVariants.{Nack, Behind, Decided}
-use Rattle.acceptor.specs.declared.message.Message.{Message}
-use Rattle.learner.specs.Chosen.{Has, IsMajority}
-use Rattle.learner.specs.Contents.{BodyHolds}
-use Rattle.learner.specs.Steps.{IsDesk}
-use Rattle.learner.specs.Worlds.{nth_sent}
-use Rattle.learner.specs.declared.event.DeskEvent.TheVariants.{Tick}
-use Rattle.learner.proofs.Contents.{message_at}
-use Rattle.replica.specs.Handles.{IsInFrame}
+use Rattle.acceptor.specs.declared.{entry.Entry.Entry, stored.Stored.Stored}
+use Rattle.acceptor.specs.declared.message.{Body.Body, Body.TheVariants.Prepare, Message.Message}
+use Rattle.learner.{specs.Chosen.Has, specs.Chosen.IsMajority, proofs.Contents.message_at}
+use Rattle.learner.specs.{Contents.BodyHolds, Steps.IsDesk, Worlds.nth_sent}
+use Rattle.replica.specs.{Handles.IsInFrame, Lengths.nothing_told, roles.Opening.opened}
+use Rattle.acceptor.specs.Ballots.{no_ballot}
 use Rattle.replica.specs.Nodes.{NodeValue}
-use Rattle.serving.specs.Adding.{Push, Hands}
-use Rattle.serving.specs.Asking.{ours, request}
-use Rattle.serving.specs.Making.{calls_of}
+use Rattle.serving.specs.{Adding.Push, Adding.Hands, Asking.ours, Asking.request, Making.calls_of}
 use Rattle.serving.specs.Serving.{Act, begun, framed, served, what_of}
 use Rattle.serving.specs.TurnLaw.{Came, Began}
-use Rattle.serving.specs.declared.request.Request.{Request}
-use Rattle.serving.specs.declared.request.Request.TheVariants.{Entered, Ticked}
+use Rattle.connections.specs.Connections.{TurnOf}
+use Rattle.serving.specs.declared.request.Request.{Request, TheVariants.Entered, TheVariants.Ticked}
 use Rattle.store.specs.declared.home.Home.{Home}
 use Rattle.wire.specs.Spelling.{spelling}
-use Rattle.wire.specs.declared.frame.Frame.{Frame}
-use Rattle.wire.specs.declared.values.Version.{Version}
+use Rattle.wire.specs.declared.{frame.Frame.Frame, values.Version.Version}
 use Rattle.progress.specs.Progress.{IsAmong}
-use Rattle.hall_laws.specs.HallGoing.{acts_for, as_it_goes, comes_over, ticked, IsServedTo}
-use Rattle.hall_laws.specs.HallRuns.{Station, Hall, home_at, seen_of, TurnAt}
-use Rattle.hall_laws.specs.HallRuns.{HallStep, HallGoes, AreSteps, IsHallRun, IsTakenIn, hall_after}
+use Rattle.hall_laws.specs.HallGoing.{IsServedTo, acts_for, as_it_goes, comes_over, own_tick}
+use Rattle.hall_laws.specs.{HallGoing.ticked, HallServing.IsOwnRequest, Tangle.first_hall}
+use Rattle.hall_laws.specs.HallRuns.{Station, Hall, home_at, seen_of, TurnAt, HallStep, HallGoes}
+use Rattle.hall_laws.specs.HallRuns.{AreSteps, IsHallRun, IsTakenIn, hall_after}
 use Rattle.hall_laws.specs.HallServing.{OwnTurn, DeskTicks, MessageComes, frame_of, asked_of}
 use Rattle.hall_laws.specs.HallServing.{events_of_message, events_of_turn, IsOwn, AreOwnTurns}
-use Rattle.hall_laws.specs.HallServing.{IsOwnRequest}
-use Rattle.hall_laws.specs.Tangle.{first_hall}
-use Rattle.hall_laws.specs.Memory.{Memory, memory}
-use Rattle.hall_laws.specs.Stops.{CallsAreHappenings}
-use Rattle.hall_laws.proofs.Contents.{IsMade}
-use Rattle.hall_laws.proofs.HallEntries.{entered_only}
-use Rattle.hall_laws.proofs.HallFree.{stands_at_end, after_both, Stands}
-use Rattle.hall_laws.proofs.HallSound.{Sound, SoundAt, sound_turn, sound_tick}
-use Rattle.hall_laws.proofs.HallSteps.{StepComes, step_comes}
-use Rattle.hall_laws.proofs.MemoryServes.{Led, NoDown, led_take, led_tell, led_learn}
+use Rattle.hall_laws.specs.{Memory.Memory, Pushing.asks_for, Stops.CallsAreHappenings}
+use Rattle.hall_laws.{specs.Memory.memory, proofs.Contents.EventHolds, proofs.Contents.IsMade}
+use Rattle.hall_laws.proofs.{HallEntries.entered_only, Keeping.AllMay, Keeping.served_keeps}
+use Rattle.hall_laws.proofs.HallGoing.{stands_at_end, after_both, Stands}
+use Rattle.hall_laws.proofs.HallSound.{Sound, SoundAt, sound_works}
+use Rattle.hall_laws.proofs.HallSteps.{step_comes, tick_works, turn_works}
+use Rattle.hall_laws.proofs.Memory.{Led, NoDown, led_call, led_quiet}
 use Rattle.hall_laws.proofs.ServedTurns.{home_of, message_asked}
 
 -- ---- a request
 
 -- before anything is done for it
-pub first_led : (home : Home) (x : NodeValue Memory) → SoundAt home x
+first_led : (home : Home) (x : NodeValue Memory) → SoundAt home x
     → Led home x (begun (seen_of x) [])
 first_led home x s = record {
   node = x;
@@ -61,51 +50,54 @@ first_led home x s = record {
   quiet = tt;
 }
 
-led_body : (home : Home) → IsDesk home.desks home.desk → (x : NodeValue Memory) (from to : ℕ)
-    (body : Body) → BodyHolds IsInFrame (IsMade home.desks) body → SoundAt home x
-    → Led home x (served home (seen_of x) [] (ours from to (what_of body)))
-led_body home mine x from to (Prepare b pos) h s =
-    led_take home mine x _ (begun (seen_of x) []) h (first_led home x s)
-led_body home mine x from to (Promise b pos vote) h s =
-    led_take home mine x _ (begun (seen_of x) []) h (first_led home x s)
-led_body home mine x from to (Accept b pos e) h s =
-    led_take home mine x _ (begun (seen_of x) []) h (first_led home x s)
-led_body home mine x from to (Accepted b pos) h s =
-    led_take home mine x _ (begun (seen_of x) []) h (first_led home x s)
-led_body home mine x from to (Nack b pos promised) h s =
-    led_take home mine x _ (begun (seen_of x) []) h (first_led home x s)
-led_body home mine x from to (Behind len) h s =
-    led_tell home mine x _ (begun (seen_of x) []) h (first_led home x s)
-led_body home mine x from to (Decided pos e) h s =
-    led_learn home mine x from to pos e (begun (seen_of x) []) h (first_led home x s)
+-- what is served of a request, whose events fit
+pub led_served : (home : Home) → IsDesk home.desks home.desk → (x : NodeValue Memory) (r : Request)
+    → AllMay (EventHolds IsInFrame home.desks) (asks_for r) → SoundAt home x
+    → Led home x (served home (seen_of x) [] r)
+led_served home mine x r may s =
+    served_keeps home (EventHolds IsInFrame home.desks) (λ t. Led home x t) (record {
+      calls = λ event t fine l. led_call home mine x t event fine l;
+      adds = λ acts t none l. led_quiet home x t acts none l;
+      drops = λ t l.
+          record {
+            node = l.node;
+            lead = l.lead;
+            seen = l.seen;
+            works = l.works;
+            at = l.at;
+            holds = l.holds;
+            range = l.range;
+            fates = l.fates;
+            quiet = l.quiet;
+          };
+      starts = tt;
+    }) (seen_of x) [] r may (first_led home x s)
 
-is_asked : (hall n d : ℕ) (version : Version) (m : Message) → m.to ≡ d
+-- what a message to the desk asks for fits
+body_may : (home : Home) (from to : ℕ) (body : Body) → BodyHolds IsInFrame (IsMade home.desks) body
+    → AllMay (EventHolds IsInFrame home.desks) (asks_for (ours from to (what_of body)))
+body_may home from to (Prepare b pos) h = (h, tt)
+body_may home from to _ h = (h, tt)
+
+pub is_asked : (hall n d : ℕ) (version : Version) (m : Message) → m.to ≡ d
     → request (home_of hall n d) (framed version hall m) ≡ ours m.from d (what_of m.body)
-is_asked hall n d version m to =
-    ap (λ (z : ℕ). request (home_of hall n d)
-    (record { version = version; hall = hall; from = m.from; to = z; what = what_of m.body })) to
-    ∙ message_asked hall n d version m.from m.body
+is_asked hall n d version m to = cc (message_asked hall n d version m.from m.body)
 
 -- a desk of the hall and a message to it
 pub led_message : (hall n d : ℕ) → IsDesk n d → (x : NodeValue Memory) (version : Version)
-    (m : Message) → BodyHolds IsInFrame (IsMade n) m.body → SoundAt (home_of hall n d) x
-    → m.to ≡ d
+    (m : Message) → BodyHolds IsInFrame (IsMade n) m.body → SoundAt (home_of hall n d) x → m.to ≡ d
     → Led (home_of hall n d) x
     (served (home_of hall n d) (seen_of x) [] (request (home_of hall n d) (framed version hall m)))
 led_message hall n d mine x version m h s to =
     subst (λ (r : Request). Led (home_of hall n d) x (served (home_of hall n d) (seen_of x) [] r))
     (sym (is_asked hall n d version m to))
-    (led_body (home_of hall n d) mine x m.from d m.body h s)
+    (led_served (home_of hall n d) mine x (ours m.from d (what_of m.body))
+    (body_may (home_of hall n d) m.from d m.body h) s)
 
-never_enters : (from to : ℕ) (body : Body) (e : Entry) → ours from to (what_of body) ≡ Entered e
+pub never_enters : (from to : ℕ) (body : Body) (e : Entry) → ours from to (what_of body) ≡ Entered e
     → ⊥
 never_enters from to (Prepare b pos) e is = absurd cc
-never_enters from to (Promise b pos vote) e is = absurd cc
-never_enters from to (Accept b pos f) e is = absurd cc
-never_enters from to (Accepted b pos) e is = absurd cc
-never_enters from to (Nack b pos promised) e is = absurd cc
-never_enters from to (Behind len) e is = absurd cc
-never_enters from to (Decided pos f) e is = absurd cc
+never_enters from to _ e is = absurd cc
 
 -- what other desks are handed is no longer recorded
 pub hands_none : (o : Option (List Push)) (more : List Push) → Hands o None more
@@ -143,76 +135,77 @@ steps_back n h (s ∷ ss) more is = steps_back n s.after ss more is.1
 
 pub front_run : (n : ℕ) (h : Hall Memory) (ss more : List (HallStep Memory))
     → IsHallRun memory n h (ss ++ more) → IsHallRun memory n h ss
-front_run n h ss more is = record {
-  first = is.first;
-  unsent = is.unsent;
-  taken = steps_front n h ss more is.taken;
-}
+front_run n h ss more is =
+    record { first = is.first; unsent = is.unsent; taken = steps_front n h ss more is.taken }
 
 -- ---- the steps of a turn
 
-quiet_at : (home : Home) (x : NodeValue Memory) (r : Request)
-    → Led home x (served home (seen_of x) [] r)
-    → NoDown (calls_of (served home (seen_of x) [] r).done)
-quiet_at home x r l = l.quiet
-
 sound_ticked : (hall n d : ℕ) (g : Hall Memory) (now : List (HallStep Memory))
-    → IsDesk n d → Sound hall n g
+    → IsDesk n d → Stands memory n g → Sound hall n g
     → map (λ (s : HallStep Memory). s.event) now ≡ ticked memory d (g.desks d) ∷ []
     → AreSteps memory n g now → Sound hall n (hall_after g now)
-sound_ticked hall n d g [] mine s is steps = absurd cc
-sound_ticked hall n d g (x ∷ y ∷ now) mine s is steps = absurd cc
-sound_ticked hall n d g (x ∷ []) mine s is steps =
+sound_ticked hall n d g (x ∷ []) mine at s is steps =
     let same : x.event ≡ ticked memory d (g.desks d) = cc in
     let own = s.desks d mine in
-    let led = at_home hall n d (g.desks d)
+    let quiet = at_home hall n d (g.desks d)
     (λ (z : Home). NoDown (calls_of (served z (seen_of (g.desks d).node) [] Ticked).done)) own
-    (quiet_at (home_of hall n d) (g.desks d).node Ticked
-    (led_take (home_of hall n d) mine (g.desks d).node Tick (begun (seen_of (g.desks d).node) [])
-    tt (first_led (home_of hall n d) (g.desks d).node own))) in
-    sound_tick hall n d _ (acts_for memory (g.desks d) Ticked) g x.after
-    (subst (λ e. HallGoes memory n e g x.after) same steps.0) led s
+    (led_served (home_of hall n d) mine (g.desks d).node Ticked (tt, tt) own).quiet in
+    sound_works hall n (ticked memory d (g.desks d)) g x.after
+    (tick_works memory n d (as_it_goes (own_tick (g.desks d).wire (home_at memory (g.desks d))))
+    (acts_for memory (g.desks d) Ticked) g x.after (at.matches.talks d mine)
+    (subst (λ e. HallGoes memory n e g x.after) same steps.0))
+    quiet (λ e enters. absurd enters.begins) s
+sound_ticked hall n d g _ mine at s is steps = absurd cc
 
--- a message that was sent to a desk, and the two steps in which it comes
+-- the two steps in which any frame comes
+pub sound_frame : (hall n d : ℕ) → CallsAreHappenings memory → (g : Hall Memory)
+    (now : List (HallStep Memory)) (number : ℕ) (f : Frame) (acts : List Act) → IsDesk n d
+    → Stands memory n g → Sound hall n g → NoDown (calls_of acts)
+    → ((e : Entry) → IsTakenIn e (calls_of acts) → IsInFrame e)
+    → map (λ (s : HallStep Memory). s.event) now ≡ comes_over d number f acts
+    → AreSteps memory n g now → Sound hall n (hall_after g now)
+sound_frame hall n d law g (x ∷ y ∷ []) number f acts mine at s quiet taken is steps =
+    sound_works hall n (TurnAt d begins acts) x.after y.after
+    (turn_works memory n d begins acts x.after y.after
+    ((step_comes memory law n x.event g x.after at.world at.matches steps.0).matches.talks d mine)
+    (subst (λ e. HallGoes memory n e x.after y.after) two steps.1.0))
+    quiet (λ e enters. taken e enters.taken) (sound_works hall n (TurnAt d came []) g x.after
+    (turn_works memory n d came [] g x.after (at.matches.talks d mine)
+    (subst (λ e. HallGoes memory n e g x.after) one steps.0))
+    tt (λ e enters. absurd enters.taken) s)
+  where
+    came : TurnOf
+    came = record { number = number; turn = Came (spelling f) }
+
+    begins : TurnOf
+    begins = record { number = number; turn = Began (as_it_goes f) }
+
+    one : x.event ≡ TurnAt d came []
+    one = cc
+
+    two : y.event ≡ TurnAt d begins acts
+    two = cc
+sound_frame hall n d law g _ number f acts mine at s quiet taken is steps = absurd cc
+
+-- a message that was sent to a desk
 sound_came : (hall n : ℕ) → CallsAreHappenings memory → (g : Hall Memory)
     (now : List (HallStep Memory)) (number : ℕ) (m : Message) → IsDesk n m.to
     → Stands memory n g → Sound hall n g → BodyHolds IsInFrame (IsMade n) m.body
-    → map (λ (s : HallStep Memory). s.event) now
-    ≡ comes_over m.to number (frame_of memory g m)
+    → map (λ (s : HallStep Memory). s.event) now ≡ comes_over m.to number (frame_of memory g m)
     (acts_for memory (g.desks m.to) (asked_of memory (g.desks m.to) (frame_of memory g m)))
     → AreSteps memory n g now → Sound hall n (hall_after g now)
-sound_came hall n law g [] number m mine at s fits is steps = absurd cc
-sound_came hall n law g (x ∷ []) number m mine at s fits is steps = absurd cc
-sound_came hall n law g (x ∷ y ∷ z ∷ now) number m mine at s fits is steps = absurd cc
-sound_came hall n law g (x ∷ y ∷ []) number m mine at s fits is steps =
-    sound_turn hall n m.to _ acts x.after y.after _ second.matches
-    (subst (λ e. HallGoes memory n e x.after y.after) two steps.1.0) quiet taken
-    (sound_turn hall n m.to _ [] g x.after _ at.matches
-    (subst (λ e. HallGoes memory n e g x.after) one steps.0) tt (λ e none. absurd none) s)
+sound_came hall n law g now number m mine at s fits is steps =
+    sound_frame hall n m.to law g now number (frame_of memory g m) acts mine at s quiet taken is
+    steps
   where
     u : Station Memory
     u = g.desks m.to
 
-    f : Frame
-    f = frame_of memory g m
-
-    r : Request
-    r = asked_of memory u f
-
     acts : List Act
-    acts = acts_for memory u r
-
-    one : x.event ≡ TurnAt m.to (record { number = number; turn = Came (spelling f) }) []
-    one = cc
-
-    two : y.event ≡ TurnAt m.to (record { number = number; turn = Began (as_it_goes f) }) acts
-    two = cc
+    acts = acts_for memory u (asked_of memory u (frame_of memory g m))
 
     own : SoundAt (home_of hall n m.to) u.node
     own = s.desks m.to mine
-
-    second : StepComes memory n x.event x.after at.world
-    second = step_comes memory law n x.event g x.after at.world at.matches steps.0
 
     quiet : NoDown (calls_of acts)
     quiet =
@@ -241,7 +234,7 @@ sound_own : (hall n d : ℕ) → CallsAreHappenings memory → (desks : List ℕ
     → map (λ (s : HallStep Memory). s.event) now ≡ events_of_turn memory d g t
     → IsOwn desks start g t → AreSteps memory n g now → Sound hall n (hall_after g now)
 sound_own hall n d law desks start g DeskTicks now major has at s is own steps =
-    sound_ticked hall n d g now (major.ours d has) s is steps
+    sound_ticked hall n d g now (major.ours d has) at s is steps
 sound_own hall n d law desks start g (MessageComes number i) now major has at s is own steps =
     go (nth_sent g.sent i) refl is own.1
   where
@@ -321,8 +314,7 @@ works_along_memory hall n d law desks h ss major has s turns more j r own is min
         subst (λ (z : Request). (y : Station Memory) × IsServedTo memory z x y) (sym tick.1)
         (served_to Ticked x
         (at_home hall n j x (λ (u : Home). Led u x.node (served u (seen_of x.node) [] Ticked)) at
-        (led_take (home_of hall n j) (major.ours j mine) x.node Tick (begun (seen_of x.node) []) tt
-        (first_led (home_of hall n j) x.node at))))
+        (led_served (home_of hall n j) (major.ours j mine) x.node Ticked (tt, tt) at)))
     go (inr (i, m, late, sent, from, to, asked)) =
         subst (λ (z : Request). (y : Station Memory) × IsServedTo memory z x y) (sym asked)
         (served_to (asked_of memory x (frame_of memory g m)) x
@@ -334,43 +326,27 @@ works_along_memory hall n d law desks h ss major has s turns more j r own is min
         (led_message hall n j (major.ours j mine) x.node (g.desks m.from).wire m
         (sent_fits hall n g i m sound sent) at to))))
 
--- ---- a frame of a client
-
--- the two steps in which any frame comes
-pub sound_frame : (hall n d : ℕ) → CallsAreHappenings memory → (g : Hall Memory)
-    (now : List (HallStep Memory)) (number : ℕ) (f : Frame) (acts : List Act)
-    → Stands memory n g → Sound hall n g → NoDown (calls_of acts)
-    → ((e : Entry) → IsTakenIn e (calls_of acts) → IsInFrame e)
-    → map (λ (s : HallStep Memory). s.event) now ≡ comes_over d number f acts
-    → AreSteps memory n g now → Sound hall n (hall_after g now)
-sound_frame hall n d law g [] number f acts at s quiet taken is steps = absurd cc
-sound_frame hall n d law g (x ∷ []) number f acts at s quiet taken is steps = absurd cc
-sound_frame hall n d law g (x ∷ y ∷ z ∷ now) number f acts at s quiet taken is steps = absurd cc
-sound_frame hall n d law g (x ∷ y ∷ []) number f acts at s quiet taken is steps =
-    sound_turn hall n d _ acts x.after y.after _ second.matches
-    (subst (λ e. HallGoes memory n e x.after y.after) two steps.1.0) quiet taken
-    (sound_turn hall n d _ [] g x.after _ at.matches
-    (subst (λ e. HallGoes memory n e g x.after) one steps.0) tt (λ e none. absurd none) s)
-  where
-    one : x.event ≡ TurnAt d (record { number = number; turn = Came (spelling f) }) []
-    one = cc
-
-    two : y.event ≡ TurnAt d (record { number = number; turn = Began (as_it_goes f) }) acts
-    two = cc
-
-    second : StepComes memory n x.event x.after at.world
-    second = step_comes memory law n x.event g x.after at.world at.matches steps.0
-
 -- ---- three desks
 
-pub first_sound : (d : ℕ) → SoundAt (home_of 7 3 d) (first_hall.desks d).node
-first_sound d = record {
+-- a desk over an empty log, which has promised nothing, and has tried this number
+abbrev pub empty_node : Home → ℕ → NodeValue Memory
+empty_node home tried =
+    let stored : Stored = record { promised = no_ballot; vote = None; tried = tried } in
+    record {
+      keeper = record { home = home; stored = stored; log = [] };
+      desk = opened stored [];
+      is_down = false;
+      told = nothing_told;
+    }
+
+pub sound_empty : (home : Home) (tried : ℕ) → tried ≤ 9 → SoundAt home (empty_node home tried)
+sound_empty home tried few = record {
   at = refl;
   works = record { up = refl; stored = refl; log = refl };
   holds =
       record {
         contents = record { promised = inl refl; vote = tt; log = tt; role = tt; queue = tt };
-        numbers = record { tried = omega arith; seen = omega arith };
+        numbers = record { tried = omega (arith, few); seen = omega arith };
       };
   range =
       record {
@@ -382,7 +358,8 @@ first_sound d = record {
 }
 
 pub sound_first : Sound 7 3 first_hall
-sound_first = record { desks = λ d ours. first_sound d; sent = tt }
+sound_first =
+    record { desks = λ d ours. sound_empty (home_of 7 3 d) 0 (omega arith); sent = tt }
 
 pub first_run : IsHallRun memory 3 first_hall []
 first_run = record {

@@ -1,45 +1,27 @@
 -- A hall continues by turns as the protocol's turns do: so its desks decide what is queued.
-use Rattle.serving.specs.Asking.{request}
-use Rattle.wire.specs.Ranges.{IsFrame}
-use Rattle.std.proofs.Common.{◌≡◌, inl, inr, refl, sym, ap, subst, ◌∙◌, ℕ, zero, suc, ◌<◌}
-use Rattle.std.proofs.Common.{◌+◌, ◌==◌, Bool, true, false, List, [], ◌∷◌, ◌++◌}
-use Rattle.std.proofs.Common.{length, map}
-use Rattle.std.proofs.Common.{Option, Some, None, slice_get, arith}
-use Rattle.std.proofs.lemmas.Bool.Decides.{nat_tests}
-use Rattle.std.proofs.lemmas.List.{append-nil, append_assoc}
+use Rattle.serving.specs.{Asking.request, Making.calls_of, Serving.Service, Serving.served}
+use Rattle.wire.specs.{Ranges.IsFrame, declared.frame.Frame.Frame}
+use Rattle.std.proofs.Common.{◌≡◌, inl, inr, refl, sym, ap, subst, ◌∙◌, ℕ, zero, suc, ◌<◌, ◌+◌}
+use Rattle.std.proofs.Common.{false, List, [], ◌∷◌, ◌++◌, length, map, Option, Some, None, arith}
+use Rattle.std.proofs.{Common.slice_get, lemmas.List.append-nil, lemmas.List.append_assoc}
 use Rattle.acceptor.specs.declared.message.Message.{Message}
 use Rattle.answers.specs.Seen.{Seen}
-use Rattle.learner.specs.Chosen.{Has, IsMajority}
-use Rattle.learner.specs.Steps.{IsDesk}
-use Rattle.learner.specs.Worlds.{World, nth_sent}
+use Rattle.learner.specs.{Chosen.Has, Chosen.IsMajority, Worlds.World, Worlds.nth_sent}
+use Rattle.learner.specs.{Steps.IsDesk, declared.event.WorldEvent.TheVariants.Deliver as DeliverNth}
 use Rattle.learner.specs.declared.event.DeskEvent.TheVariants.{Tick, Deliver}
-use Rattle.learner.specs.declared.event.WorldEvent.{WorldEvent}
-use Rattle.learner.specs.declared.event.WorldEvent.TheVariants.{Submit as SubmitAt}
-use Rattle.learner.specs.declared.event.WorldEvent.TheVariants.{Start as StartAt, Tick as TickAt}
-use Rattle.learner.specs.declared.event.WorldEvent.TheVariants.{Deliver as DeliverNth}
-use Rattle.learner.specs.declared.event.WorldEvent.TheVariants.{Restart as RestartAt}
+use Rattle.learner.specs.declared.event.WorldEvent.{WorldEvent, TheVariants.Tick as TickAt}
 use Rattle.progress.specs.Progress.{IsAmong}
 use Rattle.progress.specs.Turns.{turn, turn_of, takes_turn, take_turns, AreTurns}
-use Rattle.serving.specs.Making.{calls_of}
-use Rattle.serving.specs.Serving.{Service, served}
-use Rattle.serving.specs.declared.request.Request.{Request}
-use Rattle.serving.specs.declared.request.Request.TheVariants.{Ticked}
-use Rattle.store.specs.declared.home.Home.{Home}
-use Rattle.store.specs.declared.keeper.Keeper.{Ghosts}
-use Rattle.wire.specs.declared.frame.Frame.{Frame}
+use Rattle.serving.specs.declared.request.Request.{Request, TheVariants.Ticked}
+use Rattle.store.specs.declared.{home.Home.Home, keeper.Keeper.Ghosts}
 use Rattle.hall_laws.specs.HallGoing.{acts_for, comes_over, IsServedTo, GoesOn}
 use Rattle.hall_laws.specs.HallRuns.{Station, Hall, home_at, seen_of, HallEvent, HallStep}
-use Rattle.hall_laws.specs.HallRuns.{IsHallRun}
-use Rattle.hall_laws.specs.HallRuns.{hall_after}
-use Rattle.hall_laws.specs.HallServing.{OwnTurn, DeskTicks, MessageComes, frame_of, asked_of}
-use Rattle.hall_laws.specs.HallServing.{events_of_message, events_of_turn, IsOwn, AreOwnTurns}
-use Rattle.hall_laws.specs.HallServing.{IsOwnRequest, CanServe}
-use Rattle.hall_laws.specs.Served.{all_handed_out}
-use Rattle.hall_laws.specs.Stops.{CallsAreHappenings}
-use Rattle.hall_laws.proofs.HallComing.{messages_go_on}
-use Rattle.hall_laws.proofs.HallFree.{stands_at_end}
-use Rattle.hall_laws.proofs.HallGoing.{ticks_go_on}
-use Rattle.hall_laws.proofs.HallSteps.{MatchesAt}
+use Rattle.hall_laws.specs.{HallRuns.IsHallRun, HallRuns.hall_after, HallServing.AreOwnTurns}
+use Rattle.hall_laws.specs.HallServing.{OwnTurn, DeskTicks, MessageComes, frame_of, asked_of, IsOwn}
+use Rattle.hall_laws.specs.HallServing.{events_of_message, events_of_turn, IsOwnRequest, CanServe}
+use Rattle.hall_laws.specs.{Served.StandsFor, Served.all_handed_out, Stops.CallsAreHappenings}
+use Rattle.hall_laws.proofs.{HallFrames.messages_go_on, HallNodes.each_of}
+use Rattle.hall_laws.proofs.HallGoing.{stands_at_end, ticks_go_on}
 use Rattle.hall_laws.proofs.ServedTurns.{home_of, up_at, IsServedAs, tick_turn, message_turn}
 
 -- The run has gone on from these first steps, and its desks know what those of the world know; what
@@ -60,8 +42,7 @@ pub record Along {K : Type 0} (k : Ghosts K) (n d : ℕ) (desks : List ℕ) (h :
 -- one turn more
 own_more : {K : Type 0} (k : Ghosts K) (d : ℕ) (desks : List ℕ) (start : ℕ) (h : Hall K)
     (steps : List (HallStep K)) (ts : List OwnTurn) (t : OwnTurn) (more now : List (HallStep K))
-    → AreOwnTurns k d desks start h steps ts more
-    → map (λ (s : HallStep K). s.event) now
+    → AreOwnTurns k d desks start h steps ts more → map (λ (s : HallStep K). s.event) now
     ≡ events_of_turn k d (hall_after h (steps ++ more)) t
     → IsOwn desks start (hall_after h (steps ++ more)) t
     → AreOwnTurns k d desks start h steps (ts ++ t ∷ []) (more ++ now)
@@ -75,8 +56,7 @@ own_more {K} k d desks start h steps [] t more now own happened owned =
       refl,
     )
 own_more {K} k d desks start h steps (x ∷ ts) t more now own happened owned =
-    let same : steps ++ more ≡ (steps ++ own.0) ++ own.1
-    = ap (λ z. steps ++ z) own.2 ∙ sym (append_assoc steps own.0 own.1) in (
+    let same = ap (λ z. steps ++ z) own.2 ∙ sym (append_assoc steps own.0 own.1) in (
       own.0,
       own.1 ++ now,
       ap (λ z. z ++ now) own.2 ∙ append_assoc own.0 own.1 now,
@@ -102,24 +82,21 @@ same_served : {K : Type 0} (k : Ghosts K) → CallsAreHappenings k → (n : ℕ)
     → ((hall_after h ss).desks j).node.is_down ≡ false
     → (served (home_at k ((hall_after h ss).desks j)) (seen_of ((hall_after h ss).desks j).node) []
     r ≡ served (home_of (home_at k ((hall_after h ss).desks j)).hall n j)
-    (up_at w j ((hall_after h ss).desks j).node.told) [] r)
-    × (home_at k ((hall_after h ss).desks j)
+    (up_at w j ((hall_after h ss).desks j).node.told) [] r) × (home_at k ((hall_after h ss).desks j)
     ≡ home_of (home_at k ((hall_after h ss).desks j)).hall n j)
-same_served {K} k law n h ss w j r is mine known up = (
-  λ i. served (home_is i) (seen_is i) [] r,
-  home_is,
-)
+same_served {K} k law n h ss w j r is mine known up =
+    (λ i. served (home_is i) (seen_is i) [] r, home_is)
   where
     x : Station K
     x = (hall_after h ss).desks j
 
-    stands : MatchesAt k n j (stands_at_end k law n h ss is).world x
-    stands = (stands_at_end k law n h ss is).matches.here j mine
+    stands : StandsFor k n j (stands_at_end k law n h ss is).world x.node
+    stands = ((stands_at_end k law n h ss is).matches.nodes.here j mine).stands
 
     home_is : home_at k x ≡ home_of (home_at k x).hall n j
     home_is =
-        let one = stands.stands.desk in
-        let all = stands.stands.desks in
+        let one = stands.desk in
+        let all = stands.desks in
         λ i. record { hall = (home_at k x).hall; desk = one i; desks = all i }
 
     seen_is : seen_of x.node ≡ up_at w j x.node.told
@@ -134,8 +111,7 @@ moves : {K : Type 0} (k : Ghosts K) → CallsAreHappenings k → (n d : ℕ) (de
     → ((hall_after h ss).desks j).node.is_down ≡ false
     → IsServedAs j w v (served (home_of (home_at k ((hall_after h ss).desks j)).hall n j)
     (up_at w j ((hall_after h ss).desks j).node.told) [] r)
-    → (y : Station K) → IsServedTo k r ((hall_after h ss).desks j) y
-    → (y.node.is_down ≡ false
+    → (y : Station K) → IsServedTo k r ((hall_after h ss).desks j) y → (y.node.is_down ≡ false
     → GoesOn k n j h ss events (acts_for k ((hall_after h ss).desks j) r) y)
     → Moves k n d desks h first old ss v events
 moves {K} k law n d desks h first old ss w v j r events t turned owned a mine up serves y to go =
@@ -150,8 +126,7 @@ moves {K} k law n d desks h first old ss w v j r events t turned owned a mine up
             turns = a.turns ++ t ∷ [];
             own =
                 own_more k d desks (length (hall_after h first).sent) h first a.turns t a.more
-                goes.more a.own
-                (goes.happened ∙ turned
+                goes.more a.own (goes.happened ∙ turned
                 ∙ ap (λ (z : List (HallStep K)). events_of_turn k d (hall_after h z) t) a.later)
                 (subst (λ (z : List (HallStep K)).
                 IsOwn desks (length (hall_after h first).sent) (hall_after h z) t) a.later owned);
@@ -162,8 +137,7 @@ moves {K} k law n d desks h first old ss w v j r events t turned owned a mine up
             here =
                 goes.only.sent
                 ∙ ap (λ (z : Service). (hall_after h ss).sent ++ all_handed_out (calls_of z.done))
-                same
-                ∙ ap (λ z. z ++ handed) a.here
+                same ∙ ap (λ z. z ++ handed) a.here
                 ∙ append_assoc (hall_after h first).sent a.new handed;
             up = ups;
           };
@@ -187,34 +161,22 @@ moves {K} k law n d desks h first old ss w v j r events t turned owned a mine up
     handed : List Message
     handed = all_handed_out (calls_of s.done)
 
-    known : (i : ℕ) → IsDesk n i → ((hall_after h (ss ++ goes.more)).desks i).node.desk ≡ v.desks i
-    known i ours = pick (j == i) refl
-      where
-        pick : (t : Bool) → (j == i) ≡ t
-            → ((hall_after h (ss ++ goes.more)).desks i).node.desk ≡ v.desks i
-        pick true t =
-            let e : j ≡ i = grind (arith, nat_tests) in
-            subst (λ (z : ℕ). ((hall_after h (ss ++ goes.more)).desks z).node.desk ≡ v.desks z) e
-            (ap (λ z. z.desk) goes.node ∙ ap (λ (z : Seen). z.desk) node)
-        pick false t =
-            let ne : ¬ (j ≡ i) = (λ e. grind (arith, nat_tests)) in
-            ap (λ (z : Station K). z.node.desk) (goes.only.others i (λ e. ne (sym e)))
-            ∙ a.known i ours ∙ sym (serves.others i ne)
+    before : ℕ → Station K
+    before = (hall_after h ss).desks
 
-    ups : (i : ℕ) → Has desks i
-        → ((hall_after h (ss ++ goes.more)).desks i).node.is_down ≡ false
-    ups i has = pick (j == i) refl
-      where
-        pick : (t : Bool) → (j == i) ≡ t
-            → ((hall_after h (ss ++ goes.more)).desks i).node.is_down ≡ false
-        pick true t =
-            let e : j ≡ i = grind (arith, nat_tests) in
-            subst (λ (z : ℕ). ((hall_after h (ss ++ goes.more)).desks z).node.is_down ≡ false) e
-            (ap (λ z. z.is_down) goes.node ∙ ap (λ (z : Seen). z.is_down) node)
-        pick false t =
-            let ne : ¬ (j ≡ i) = (λ e. grind (arith, nat_tests)) in
-            ap (λ (z : Station K). z.node.is_down) (goes.only.others i (λ e. ne (sym e)))
-            ∙ a.up i has
+    after : ℕ → Station K
+    after = (hall_after h (ss ++ goes.more)).desks
+
+    known : (i : ℕ) → IsDesk n i → (after i).node.desk ≡ v.desks i
+    known i ours =
+        each_of j before after goes.only.others (λ l z. z.node.desk ≡ v.desks l)
+        (ap (λ z. z.desk) goes.node ∙ ap (λ (z : Seen). z.desk) node) i
+        (λ other. a.known i ours ∙ sym (serves.others i (λ e. other (sym e))))
+
+    ups : (i : ℕ) → Has desks i → (after i).node.is_down ≡ false
+    ups i has =
+        each_of j before after goes.only.others (λ l z. z.node.is_down ≡ false)
+        (ap (λ z. z.is_down) goes.node ∙ ap (λ (z : Seen). z.is_down) node) i (λ other. a.up i has)
 
 -- the premises, along the run
 works_along : {K : Type 0} (k : Ghosts K) (n d : ℕ) (desks : List ℕ) (h : Hall K)
@@ -233,8 +195,7 @@ frames_along : {K : Type 0} (k : Ghosts K) (n d : ℕ) (desks : List ℕ) (h : H
     (first : List (HallStep K)) (old : World) (ss : List (HallStep K)) (w : World) (at : ℕ)
     (m : Message) → CanServe k n d desks h first → Along k n d desks h first old ss w
     → length (hall_after h first).sent < at → nth_sent (hall_after h ss).sent at ≡ Some m
-    → Has desks m.from → Has desks m.to
-    → IsFrame (frame_of k (hall_after h ss) m)
+    → Has desks m.from → Has desks m.to → IsFrame (frame_of k (hall_after h ss) m)
 frames_along {K} k n d desks h first old ss w at m can a late sent from to =
     subst (λ (zs : List (HallStep K)). IsHallRun k n h zs
     → nth_sent (hall_after h zs).sent at ≡ Some m
@@ -263,11 +224,7 @@ later_sent : (xs ys new : List Message) (i : ℕ) (m : Message) → length xs < 
     → nth_sent (xs ++ new) i ≡ Some m
     → (at : ℕ) × (length ys < at) × (nth_sent (ys ++ new) at ≡ Some m)
 later_sent xs ys new zero m late is = absurd (omega (arith, late))
-later_sent [] ys new (suc i) m late is = (
-  suc (length ys + i),
-  omega arith,
-  found ys,
-)
+later_sent [] ys new (suc i) m late is = (suc (length ys + i), omega arith, found ys)
   where
     found : (zs : List Message) → slice_get (zs ++ new) (length zs + i) ≡ Some m
     found [] = subst (λ (j : ℕ). slice_get new j ≡ Some m) (omega arith) is
@@ -320,8 +277,7 @@ message_moves {K} k law n d desks h first old ss w i m major can a late is from 
         (served (home_of (home_at k x).hall n m.to) (up_at w m.to x.node.told) [] r)
     serves =
         subst (λ (z : Home). IsServedAs m.to w (turn n w m.to (Deliver m))
-        (served (home_of (home_at k x).hall n m.to) (up_at w m.to x.node.told) []
-        (request z f)))
+        (served (home_of (home_at k x).hall n m.to) (up_at w m.to x.node.told) [] (request z f)))
         (sym (same_served k law n h ss w m.to Ticked a.run mine (a.known m.to mine)
         (a.up m.to to)).1)
         (message_turn (home_at k x).hall n m.to w x.node.told (g.desks m.from).wire m refl mine)
@@ -347,8 +303,7 @@ message_moves {K} k law n d desks h first old ss w i m major can a late is from 
             up : y.0.node.is_down ≡ false
             up =
                 let to1 : IsServedTo k r x y.0 = y.1 in
-                ap (λ (z : Seen). z.is_down) (to1.node
-                ∙ ap (λ (z : Service). z.seen)
+                ap (λ (z : Seen). z.is_down) (to1.node ∙ ap (λ (z : Service). z.seen)
                 (same_served k law n h ss w m.to r a.run mine (a.known m.to mine) (a.up m.to to)).0
                 ∙ serves.seen)
 
@@ -386,19 +341,15 @@ then_follows : {K : Type 0} (k : Ghosts K) (n d : ℕ) (desks : List ℕ) (h : H
     → Follows k n d desks h first (ss ++ m.now) count z
     → Follows k n d desks h first ss (suc count) z
 then_follows {K} k n d desks h first ss old v z count t own m f =
+    let same : (ss ++ m.now) ++ f.more ≡ ss ++ (m.now ++ f.more) = append_assoc ss m.now f.more in
     record {
       turns = t ∷ f.turns;
       many = ap (λ c. suc c) f.many;
       more = m.now ++ f.more;
       run = subst (λ (zs : List (HallStep K)). IsHallRun k n h zs) same f.run;
       own = (m.now, f.more, refl, m.happened, own, f.own);
-      known =
-          subst (λ (zs : List (HallStep K)). ((hall_after h zs).desks d).node.desk ≡ z.desks d) same
-          f.known;
+      known = rw same at f.known;
     }
-  where
-    same : (ss ++ m.now) ++ f.more ≡ ss ++ (m.now ++ f.more)
-    same = append_assoc ss m.now f.more
 
 pub follows : {K : Type 0} (k : Ghosts K) → CallsAreHappenings k → (n d : ℕ) (desks : List ℕ)
     (h : Hall K) (first : List (HallStep K)) (old : World) (es : List WorldEvent)
@@ -417,9 +368,6 @@ follows {K} k law n d desks h first old [] ss w major has can a are =
           subst (λ (zs : List (HallStep K)). ((hall_after h zs).desks d).node.desk ≡ w.desks d)
           (sym (append-nil ss)) (a.known d (major.ours d has));
     }
-follows k law n d desks h first old (SubmitAt j e ∷ es) ss w major has can a are = absurd are.0
-follows k law n d desks h first old (StartAt j ∷ es) ss w major has can a are = absurd are.0
-follows k law n d desks h first old (RestartAt j ∷ es) ss w major has can a are = absurd are.0
 follows k law n d desks h first old (TickAt j ∷ es) ss w major has can a are =
     go (tick_moves k law n d desks h first old ss w can a (major.ours d has) has)
     (λ zs v along rest. follows k law n d desks h first old es zs v major has can along rest)
@@ -437,8 +385,7 @@ follows k law n d desks h first old (TickAt j ∷ es) ss w major has can a are =
         then_follows k n d desks h first ss old (turn n w d Tick)
         (take_turns n w (TickAt j ∷ es)) (length es) DeskTicks tt m
         (subst (λ (v : World). Follows k n d desks h first (ss ++ m.now) (length es)
-        (take_turns n v es)) (sym same)
-        (again (ss ++ m.now) (turn n w d Tick) m.along
+        (take_turns n v es)) (sym same) (again (ss ++ m.now) (turn n w d Tick) m.along
         (subst (λ (v : World). AreTurns n d desks (length old.sent) v es) same are.1)))
 follows k law n d desks h first old (DeliverNth i ∷ es) ss w major has can a are =
     go (nth_sent w.sent i) refl are.0.1
@@ -466,3 +413,4 @@ follows k law n d desks h first old (DeliverNth i ∷ es) ss w major has can a a
         (take_turns n v es)) (sym same)
         (again (ss ++ c.moves.now) (turn n w m.to (Deliver m)) c.moves.along
         (subst (λ (v : World). AreTurns n d desks (length old.sent) v es) same are.1)))
+follows k law n d desks h first old _ ss w major has can a are = absurd are.0

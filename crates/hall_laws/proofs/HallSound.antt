@@ -1,45 +1,23 @@
 -- In a hall of desks over keepers that never fail, what a turn leads to is sound: each desk works,
 -- and each entry in it and in what was sent fits in a frame.
-use Rattle.std.proofs.Common.{◌≡◌, refl, sym, ap, subst, ◌∙◌, ℕ, zero, suc, Bool, true, false}
-use Rattle.std.proofs.Common.{eqb, inl, inr, List, [], ◌∷◌, ◌++◌, Some, Result, Ok, Err}
-use Rattle.std.proofs.lemmas.Bool.{eqb-true, eqb-false}
+use Rattle.std.proofs.Common.{◌≡◌, refl, sym, ap, subst, ◌∙◌, ℕ, zero, suc, Bool, true, false, inl}
+use Rattle.std.proofs.Common.{inr, List, [], ◌∷◌, ◌++◌, Some, Result, Ok, Err}
 use Rattle.std.specs.Prelude.{IsOk, OnErr}
-use Rattle.acceptor.specs.declared.entry.Entry.{Entry}
-use Rattle.acceptor.specs.declared.message.Message.{Message}
+use Rattle.acceptor.specs.declared.{entry.Entry.Entry, message.Message.Message}
 use Rattle.learner.specs.Contents.{BodyHolds, MessagesHold}
-use Rattle.learner.specs.Ranges.{DeskIsInRange, DoneIsInRange}
-use Rattle.learner.specs.Steps.{IsDesk, step}
-use Rattle.learner.specs.Worlds.{World, nth_sent}
-use Rattle.learner.specs.declared.event.DeskEvent.{DeskEvent}
-use Rattle.learner.specs.declared.event.DeskEvent.TheVariants.{Submit, Start, Tick, Deliver}
-use Rattle.learner.proofs.Contents.{messages_append, message_at}
-use Rattle.learner.proofs.InRange.{step_in_range}
-use Rattle.replica.specs.Handles.{Handles, Takes, IsInFrame}
-use Rattle.replica.specs.Settles.{Settles}
-use Rattle.replica.specs.Nodes.{NodeValue}
-use Rattle.replica.specs.declared.roles.fault.NodeFault.{NodeFault}
-use Rattle.replica.specs.declared.roles.fault.NodeFault.TheVariants.{Down}
-use Rattle.serving.specs.Making.{Call, Lead, calls_of, speaking}
-use Rattle.serving.specs.Connection.{asked, Begun, serve_frame}
-use Rattle.serving.specs.Serving.{Act}
-use Rattle.serving.specs.TurnLaw.{Place}
-use Rattle.connections.specs.Connections.{TurnOf, place_of}
+use Rattle.learner.specs.{Ranges.DeskIsInRange, Ranges.DoneIsInRange, Steps.IsDesk, Steps.step}
+use Rattle.learner.specs.{Worlds.nth_sent, declared.event.DeskEvent.DeskEvent}
+use Rattle.learner.specs.declared.event.DeskEvent.TheVariants.{Submit, Deliver}
+use Rattle.learner.proofs.{Contents.messages_append, Contents.message_at, InRange.step_in_range}
+use Rattle.replica.specs.{Handles.Handles, Handles.Takes, Handles.IsInFrame, Nodes.NodeValue}
+use Rattle.replica.specs.declared.roles.fault.NodeFault.{NodeFault, TheVariants.Down}
+use Rattle.serving.specs.{Making.Call, Making.Lead, Making.calls_of, Serving.Act}
 use Rattle.store.specs.declared.home.Home.{Home}
-use Rattle.hall_laws.specs.Arriving.{delivers}
-use Rattle.hall_laws.specs.HallRuns.{Station, Hall, home_at, seen_of, connections, OnlyAt}
-use Rattle.hall_laws.specs.HallRuns.{IsTakenIn}
-use Rattle.hall_laws.specs.HallRuns.{TakesTurn, TicksItself, TurnWasSent}
-use Rattle.hall_laws.specs.Memory.{Memory, memory}
-use Rattle.hall_laws.specs.OwnMessages.{WereSentTo}
+use Rattle.hall_laws.specs.HallRuns.{Enters, Hall, HallEvent, IsTakenIn, OnlyAt, acts_of, desk_of}
+use Rattle.hall_laws.{specs.Memory.Memory, specs.Memory.memory, proofs.ServedTurns.home_of}
 use Rattle.hall_laws.specs.Served.{IsSentTo, AreSentTo, handed_out, all_handed_out}
 use Rattle.hall_laws.proofs.Contents.{DeskFits, EventHolds, DoneHolds, IsMade, step_holds}
-use Rattle.hall_laws.proofs.HallDesks.{turn_does, Does}
-use Rattle.hall_laws.proofs.HallEntries.{tick_takes_none}
-use Rattle.hall_laws.proofs.HallSteps.{Matches}
-use Rattle.hall_laws.proofs.Memory.{Works}
-use Rattle.hall_laws.proofs.MemoryServes.{NoDown}
-use Rattle.hall_laws.proofs.OwnMessages.{front_sent, one_frame}
-use Rattle.hall_laws.proofs.ServedTurns.{home_of}
+use Rattle.hall_laws.proofs.{HallNodes.each_of, HallSteps.WorksAt, Memory.Works, Memory.NoDown}
 
 -- ---- a desk
 
@@ -56,13 +34,12 @@ Fit n ms = MessagesHold IsInFrame (IsMade n) ms
 event_fits : (n d : ℕ) (sent : List Message) (event : DeskEvent) → IsSentTo d sent event
     → Fit n sent → ((e : Entry) → event ≡ Submit e → IsInFrame e) → EventHolds IsInFrame n event
 event_fits n d sent (Submit e) was fit given = given e refl
-event_fits n d sent Start was fit given = tt
-event_fits n d sent Tick was fit given = tt
 event_fits n d sent (Deliver m) was fit given = go was.0 was.1
   where
     go : (k : ℕ) → nth_sent sent k ≡ Some m → BodyHolds IsInFrame (IsMade n) m.body
     go zero is = absurd cc
     go (suc k) is = message_at IsInFrame (IsMade n) sent k m fit is
+event_fits n d sent _ was fit given = tt
 
 -- after a call
 sound_call : (home : Home) → IsDesk home.desks home.desk → (sent : List Message) (c : Call)
@@ -156,88 +133,31 @@ pub moved : (hall n d : ℕ) (acts : List Act) (h g : Hall Memory) → Sound hal
     → OnlyAt d acts h g → SoundAt (home_of hall n d) (g.desks d).node
     → Fit n (all_handed_out (calls_of acts)) → Sound hall n g
 moved hall n d acts h g s only own fit = record {
-  desks = λ j ours. go j ours (eqb j d) refl;
+  desks = λ j ours.
+      each_of d h.desks g.desks only.others (λ i x. SoundAt (home_of hall n i) x.node) own j
+      (λ other. s.desks j ours);
   sent =
-      subst (λ ms. Fit n ms) (sym only.sent)
-      (messages_append IsInFrame (IsMade n) h.sent (all_handed_out (calls_of acts)) s.sent fit);
+      subst (λ ms. Fit n ms) (sym only.sent) (messages_append IsInFrame (IsMade n) _ _ s.sent fit);
 }
+
+-- a turn, or a Tick of its own
+pub sound_works : (hall n : ℕ) (event : HallEvent) (h g : Hall Memory)
+    → WorksAt memory n event h g → NoDown (calls_of (acts_of event))
+    → ((e : Entry) → Enters event e → IsInFrame e) → Sound hall n h → Sound hall n g
+sound_works hall n event h g does up fits s = moved hall n d acts h g s does.only all.0 all.1
   where
-    go : (j : ℕ) → IsDesk n j → (b : Bool) → eqb j d ≡ b
-        → SoundAt (home_of hall n j) (g.desks j).node
-    go j ours true is =
-        subst (λ z. SoundAt (home_of hall n z) (g.desks z).node) (sym (eqb-true j d is)) own
-    go j ours false is =
-        subst (λ (x : Station Memory). SoundAt (home_of hall n j) x.node)
-        (sym (only.others j (eqb-false j d is))) (s.desks j ours)
+    d : ℕ
+    d = desk_of event
 
-pub sound_turn : (hall n d : ℕ) (t : TurnOf) (acts : List Act) (h g : Hall Memory) (w : World)
-    → Matches memory n h w → TakesTurn memory n d t acts h g → NoDown (calls_of acts)
-    → ((e : Entry) → IsTakenIn e (calls_of acts) → IsInFrame e) → Sound hall n h → Sound hall n g
-sound_turn hall n d t acts h g w m step up taken s =
-    moved hall n d acts h g s step.only all.0 all.1
-  where
-    x : Station Memory
-    x = h.desks d
+    acts : List Act
+    acts = acts_of event
 
-    y : Station Memory
-    y = g.desks d
+    own : SoundAt (home_of hall n d) (h.desks d).node
+    own = s.desks d does.ours
 
-    a : Place (speaking (Handles memory) (Settles memory) x.wire)
-    a = place_of (connections memory x.wire x) t.number
-
-    b : Place (speaking (Handles memory) (Settles memory) x.wire)
-    b = place_of (connections memory x.wire y) t.number
-
-    own : SoundAt (home_of hall n d) x.node
-    own = s.desks d step.ours
-
-    talk_home : (x.talks t.number).home ≡ home_at memory x
-    talk_home = (m.here d step.ours).talks t.number
-
-    does : Does t.turn a b acts h.sent
-    does =
-        turn_does t.turn a b acts h.sent step.turn.turn step.done
-        (subst (λ z. TurnWasSent z h.sent t.turn) (sym talk_home) step.brings)
-
-    sent : AreSentTo d h.sent (calls_of acts)
-    sent =
-        subst (λ z. AreSentTo z h.sent (calls_of acts))
-        (ap (λ u. u.desk) talk_home ∙ ap (λ u. u.desk) own.at) does.were_sent
-
-    all : SoundAt (home_of hall n d) y.node × Fit n (all_handed_out (calls_of acts))
+    all : SoundAt (home_of hall n d) (g.desks d).node × Fit n (all_handed_out (calls_of acts))
     all =
-        sound_calls (home_of hall n d) step.ours h.sent (calls_of acts) x.node y.node does.lead up
-        sent s.sent taken own
-
-pub sound_tick : (hall n d : ℕ) (one : Begun) (acts : List Act) (h g : Hall Memory)
-    → TicksItself memory n d one acts h g → NoDown (calls_of acts) → Sound hall n h
-    → Sound hall n g
-sound_tick hall n d one acts h g step up s =
-    moved hall n d acts h g s step.only all.0 all.1
-  where
-    x : Station Memory
-    x = h.desks d
-
-    y : Station Memory
-    y = g.desks d
-
-    own : SoundAt (home_of hall n d) x.node
-    own = s.desks d step.ours
-
-    brings : WereSentTo (home_at memory x).desk h.sent (delivers (asked (home_at memory x) one))
-    brings =
-        subst (λ r. WereSentTo (home_at memory x).desk h.sent (delivers r)) (sym step.asked) tt
-
-    sent : AreSentTo d h.sent (calls_of acts)
-    sent =
-        subst (λ u. AreSentTo u h.sent (calls_of acts)) (ap (λ u. u.desk) own.at)
-        (front_sent (home_at memory x).desk h.sent
-        (serve_frame (home_at memory x) (seen_of x.node) one).acts acts step.rest step.parts
-        (one_frame (home_at memory x) (seen_of x.node) h.sent one brings))
-
-    all : SoundAt (home_of hall n d) y.node × Fit n (all_handed_out (calls_of acts))
-    all =
-        sound_calls (home_of hall n d) step.ours h.sent (calls_of acts) x.node y.node
-        step.made.calls up sent s.sent
-        (λ e has. absurd (tick_takes_none (home_at memory x) (seen_of x.node) one acts step.rest e
-        step.asked step.parts has)) own
+        sound_calls (home_of hall n d) does.ours h.sent (calls_of acts) (h.desks d).node
+        (g.desks d).node does.lead up
+        (subst (λ u. AreSentTo u h.sent (calls_of acts)) (ap (λ u. u.desk) own.at) does.sent)
+        s.sent (λ e taken. fits e (does.enters e taken)) own

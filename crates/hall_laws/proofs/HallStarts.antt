@@ -1,32 +1,23 @@
 -- A desk that has more to decide is given a Start.
-use Rattle.std.proofs.Common.{◌≡◌, inl, inr, refl, sym, ap, subst, ◌∙◌, ℕ, Bool}
-use Rattle.std.proofs.Common.{true, false, not, ◌&&◌, nat_lt, if◌then◌else◌, List, [], ◌∷◌, ◌++◌}
-use Rattle.std.proofs.Common.{length, Result, Ok, Err, arith}
-use Rattle.std.proofs.lemmas.Bool.Decides.{nat_tests}
-use Rattle.acceptor.specs.declared.entry.Entry.{Entry}
-use Rattle.acceptor.specs.declared.message.Message.{Message}
+use Rattle.std.proofs.Common.{◌≡◌, inl, inr, refl, sym, ap, subst, ◌∙◌, ℕ, Bool, true, false}
+use Rattle.std.proofs.Common.{nat_lt, if◌then◌else◌, List, [], ◌∷◌, ◌++◌, length, Result, Ok, Err}
+use Rattle.acceptor.specs.declared.{entry.Entry.Entry, message.Message.Message}
 use Rattle.answers.specs.Seen.{Seen}
-use Rattle.learner.specs.Steps.{Done, step}
-use Rattle.learner.specs.declared.event.DeskEvent.{DeskEvent}
+use Rattle.learner.specs.{Steps.Done, Steps.step, declared.event.DeskEvent.DeskEvent}
 use Rattle.learner.specs.declared.event.DeskEvent.TheVariants.{Submit, Start, Tick, Deliver}
 use Rattle.proposer.specs.declared.fault.Refusal.{Refusal}
-use Rattle.replica.specs.declared.roles.fault.NodeFault.{NodeFault}
-use Rattle.replica.specs.declared.roles.fault.NodeFault.TheVariants.{Down}
+use Rattle.replica.specs.declared.roles.fault.NodeFault.{NodeFault, TheVariants.Down}
 use Rattle.serving.specs.Making.{Call, calls_of}
-use Rattle.serving.specs.Nodes.{Fate, Goes, Starves, Breaks, by_fate, by_step, reply}
+use Rattle.serving.specs.Nodes.{Fate, Goes, by_fate, by_step, reply}
 use Rattle.serving.specs.Serving.{Act, Called, Service, answer_out, begun, call, enter, entered_by}
 use Rattle.serving.specs.Serving.{first_fate, grew, learn, learn_all, reply_to, served, push_all}
 use Rattle.serving.specs.Serving.{start_if_grown, take, tell}
-use Rattle.serving.specs.declared.request.Request.{Request}
+use Rattle.serving.specs.declared.request.Request.{Request, TheVariants.Ticked}
 use Rattle.serving.specs.declared.request.Request.TheVariants.{Heard, Lagging, Learned, Entered}
-use Rattle.serving.specs.declared.request.Request.TheVariants.{Asked, Printed, Ticked, Stopped}
-use Rattle.serving.specs.declared.request.Request.TheVariants.{Inspected, Copied, Strange, Ignored}
-use Rattle.serving.specs.declared.request.Request.TheVariants.{Denied, Withheld}
 use Rattle.store.specs.declared.home.Home.{Home}
 use Rattle.hall_laws.specs.HallGoing.{HasCall, StartsCome}
-use Rattle.hall_laws.specs.HallRuns.{IsTakenIn}
-use Rattle.hall_laws.proofs.Following.{follows_push}
-use Rattle.hall_laws.proofs.OwnMessages.{calls_both}
+use Rattle.hall_laws.{specs.HallRuns.IsTakenIn, proofs.OwnMessages.calls_both}
+use Rattle.hall_laws.proofs.Events.{follows_push, no_growth, not_longer}
 
 has_front : (e : DeskEvent) (cs ds : List Call) → HasCall e cs → HasCall e (cs ++ ds)
 has_front e [] ds h = absurd h
@@ -63,25 +54,15 @@ after_growth home before s = go (grew before s.seen) refl
     go : (t : Bool) → grew before s.seen ≡ t → grew before (next t).seen ≡ true
         → HasCall Start (calls_of (next t).done)
     go true is grown = has_start home s
-    go false is grown =
-        absurd (let two : false ≡ true = sym is ∙ grown in cc)
+    go false is grown = absurd (let two : false ≡ true = sym is ∙ grown in cc)
 
 -- ---- where the log has not grown
-
-second_false : (a b c : Bool) → b ≡ false → (a && b && c) ≡ true → ⊥
-second_false false b c least is = let two : false ≡ true = is in cc
-second_false true true c least is = let two : true ≡ false = least in cc
-second_false true false c least is = let two : false ≡ true = is in cc
 
 not_grown : (x s : Seen) → s.desk ≡ x.desk → grew (length x.desk.log) s ≡ true → ⊥
 not_grown x s same grown =
     let least : nat_lt (length x.desk.log) (length s.desk.log) ≡ false =
-    ap (λ d. nat_lt (length x.desk.log) (length d.log)) same ∙ itself (length x.desk.log) in
-    second_false (not s.is_down) (nat_lt (length x.desk.log) (length s.desk.log))
-    (nat_lt 0 (length s.desk.queue)) least grown
-  where
-    itself : (n : ℕ) → nat_lt n n ≡ false
-    itself n = grind (arith, nat_tests)
+    ap (λ d. nat_lt (length x.desk.log) (length d.log)) same ∙ not_longer (length x.desk.log) in
+    let two : true ≡ false = sym grown ∙ no_growth (length x.desk.log) s least in cc
 
 by_step_refused : (home : Home) (event : DeskEvent) (x : Seen) (r : Result Done Refusal)
     (why : NodeFault)
@@ -90,20 +71,17 @@ by_step_refused home event x (Ok d) why is = absurd cc
 by_step_refused home event x (Err fault) why is = refl
 
 by_fate_refused : (home : Home) (x : Seen) (event : DeskEvent) (fate : Fate) (why : NodeFault)
-    → (by_fate home x event fate).result ≡ Err why
-    → (by_fate home x event fate).seen.desk ≡ x.desk
+    → (by_fate home x event fate).result ≡ Err why → (by_fate home x event fate).seen.desk ≡ x.desk
 by_fate_refused home x event Goes why is =
     by_step_refused home event x (step home.desks home.desk x.desk event) why is
-by_fate_refused home x event Starves why is = refl
-by_fate_refused home x event Breaks why is = refl
+by_fate_refused home x event _ why is = refl
 
 -- a call that is refused leaves the desk as it was
 refused_same : (home : Home) (x : Seen) (event : DeskEvent) (fate : Fate) (why : NodeFault)
     → (reply home x event fate).result ≡ Err why → (reply home x event fate).seen.desk ≡ x.desk
 refused_same home x event fate why = go x.is_down
   where
-    go : (b : Bool)
-        → (if b then record { result = Err Down; seen = x }
+    go : (b : Bool) → (if b then record { result = Err Down; seen = x }
         else by_fate home x event fate).result ≡ Err why
         → (if b then record { result = Err Down; seen = x }
         else by_fate home x event fate).seen.desk ≡ x.desk
@@ -113,8 +91,7 @@ refused_same home x event fate why = go x.is_down
 -- ---- an entry
 
 entry_grown : (home : Home) (x : Seen) (e : Entry) (s : Service)
-    (r : Result (List Message) NodeFault)
-    → ((why : NodeFault) → r ≡ Err why → s.seen.desk ≡ x.desk)
+    (r : Result (List Message) NodeFault) → ((why : NodeFault) → r ≡ Err why → s.seen.desk ≡ x.desk)
     → grew (length x.desk.log) (entered_by home r s).seen ≡ true
     → HasCall Start (calls_of (entered_by home r s).done)
 entry_grown home x e s (Ok ms) same grown = has_start home s
@@ -127,8 +104,7 @@ none_taken e why (inl is) = let two = is.1 in cc
 none_taken e why (inr none) = none
 
 entry_taken : (home : Home) (e : Entry) (s : Service) (r : Result (List Message) NodeFault)
-    → s.done ≡ Called (Submit e) r ∷ []
-    → IsTakenIn e (calls_of (entered_by home r s).done)
+    → s.done ≡ Called (Submit e) r ∷ [] → IsTakenIn e (calls_of (entered_by home r s).done)
     → HasCall Start (calls_of (entered_by home r s).done)
 entry_taken home e s (Ok ms) is taken = has_start home s
 entry_taken home e s (Err why) is taken =
@@ -154,15 +130,7 @@ grown home x fates (Entered e) is =
     (λ why refused. refused_same home x (Submit e) (first_fate fates) why refused) is
 grown home x fates Ticked is =
     after_growth home (length x.desk.log) (push_all (call home Tick (begun x fates))) is
-grown home x fates (Asked id) is = absurd (not_grown x x refl is)
-grown home x fates (Printed event round position style) is = absurd (not_grown x x refl is)
-grown home x fates Stopped is = absurd (not_grown x x refl is)
-grown home x fates (Inspected differs) is = absurd (not_grown x x refl is)
-grown home x fates (Copied position) is = absurd (not_grown x x refl is)
-grown home x fates Strange is = absurd (not_grown x x refl is)
-grown home x fates Ignored is = absurd (not_grown x x refl is)
-grown home x fates Denied is = absurd (not_grown x x refl is)
-grown home x fates Withheld is = absurd (not_grown x x refl is)
+grown home x fates _ is = absurd (not_grown x x refl is)
 
 entered : (home : Home) (x : Seen) (fates : List Fate) (e : Entry)
     → IsTakenIn e (calls_of (served home x fates (Entered e)).done)

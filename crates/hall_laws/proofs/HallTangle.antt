@@ -1,64 +1,42 @@
 -- Three desks come to a tangle, and a majority of them decides.
+use Rattle.hall_laws.proofs.HallExample.{one_of_three, two_of_three}
+use Rattle.progress.proofs.Tangle.{and, majority, of_these}
 use Rattle.std.proofs.Common.{◌≡◌, ◌≤◌, ◌+◌, ◌*◌, inl, inr, refl, sym, ap, subst, ◌∙◌, ℕ, eqb}
 use Rattle.std.proofs.Common.{if◌then◌else◌, List, [], ◌∷◌, ◌++◌, drop, length, None, Some, arith}
-use Rattle.std.proofs.Common.{false, slice_get, take, Ok}
-use Rattle.std.proofs.Math.Seq.{take-length}
+use Rattle.std.proofs.{Common.false, Common.slice_get, Common.take, Common.Ok, Math.Seq.take-length}
 use Rattle.acceptor.specs.declared.message.Body.TheVariants.{Prepare, Promise, Accept}
 use Rattle.acceptor.specs.declared.message.Message.{Message}
 use Rattle.answers.specs.Seen.{Seen}
-use Rattle.learner.specs.Chosen.{Has, IsMajority}
-use Rattle.learner.specs.Desks.{Desk, first_desk}
-use Rattle.learner.specs.Steps.{IsDesk}
-use Rattle.learner.specs.Worlds.{World, after}
-use Rattle.learner.specs.declared.event.DeskEvent.TheVariants.{Tick}
-use Rattle.learner.specs.declared.event.WorldEvent.{WorldEvent}
+use Rattle.learner.specs.{Chosen.Has, Steps.IsDesk, Contents.BodyHolds, Ranges.IsInRange}
+use Rattle.learner.specs.{Desks.Desk, Desks.first_desk, Worlds.World, Worlds.after, Worlds.nth_sent}
+use Rattle.learner.specs.declared.event.{DeskEvent.TheVariants.Tick, WorldEvent.WorldEvent}
 use Rattle.progress.specs.Progress.{CanDecide, HasRoom, NoQueueIsStuck}
-use Rattle.progress.specs.Tangle.{ballot, entry, these}
-use Rattle.progress.specs.Turns.{HasTurnRoom, NoServingDeskIsStuck, numbers_needed}
-use Rattle.replica.specs.Handles.{IsInFrame, step_at}
-use Rattle.replica.specs.Lengths.{nothing_told}
-use Rattle.replica.specs.Nodes.{NodeValue}
-use Rattle.replica.specs.Stores.{HoldsStep}
-use Rattle.replica.specs.roles.Opening.{opened}
-use Rattle.serving.specs.Asking.{request}
+use Rattle.progress.specs.Tangle.{ballot, entry, these, outbid_desk}
+use Rattle.progress.specs.Turns.{HasTurnRoom, NoServingDeskIsStuck}
+use Rattle.replica.specs.{Handles.IsInFrame, Handles.step_at, Stores.HoldsStep}
+use Rattle.replica.specs.{roles.Opening.opened, Lengths.nothing_told, Nodes.NodeValue}
+use Rattle.serving.specs.{Asking.request, Making.calls_of, Serving.start_if_grown, Turns.new_talk}
+use Rattle.serving.specs.Serving.{take as take_event, Act, call, enter, framed, served, push_all}
 use Rattle.serving.specs.Connection.{Begun, close_of, serve_frame}
-use Rattle.serving.specs.Making.{calls_of}
-use Rattle.serving.specs.Serving.{Act, begun, call, enter, framed}
-use Rattle.serving.specs.Serving.{served, push_all, start_if_grown, take as take_event}
-use Rattle.serving.specs.Turns.{new_talk}
 use Rattle.serving.specs.declared.request.Request.TheVariants.{Entered}
 use Rattle.store.specs.declared.home.Home.{Home}
-use Rattle.wire.specs.Ranges.{IsFrame}
-use Rattle.wire.specs.declared.values.Version.TheVariants.{Two}
-use Rattle.hall_laws.specs.HallExample.{third_home}
+use Rattle.wire.specs.{Ranges.IsFrame, declared.values.Version.TheVariants.Two}
+use Rattle.hall_laws.specs.{HallExample.third_home, HallProgress.ComesTo, HallServing.CanServe}
+use Rattle.hall_laws.specs.{HallProgress.world_of, Stops.CallsAreHappenings, Stops.StopsMakeARun}
 use Rattle.hall_laws.specs.HallGoing.{as_it_goes, own_tick}
-use Rattle.hall_laws.specs.HallProgress.{ComesTo, world_of}
+use Rattle.hall_laws.specs.{Memory.Memory, Memory.memory, Tangle.rival_desk, Tangle.submit}
 use Rattle.hall_laws.specs.HallRuns.{CutAt, FrameWasSent, Hall, HallGoes, HallStep, IsOpened}
-use Rattle.hall_laws.specs.HallRuns.{IsTick}
-use Rattle.hall_laws.specs.HallRuns.{Station, StopsInSave, hall_after, seen_of}
-use Rattle.hall_laws.specs.HallServing.{CanServe}
-use Rattle.hall_laws.specs.Memory.{Memory, memory}
-use Rattle.hall_laws.specs.Stops.{CallsAreHappenings, StopsMakeARun}
-use Rattle.hall_laws.specs.Tangle.{StopsOnce, TangleIsDecided, first_hall, outbid_desk}
-use Rattle.hall_laws.specs.Tangle.{restarted_desk, rival_desk, submit}
-use Rattle.hall_laws.proofs.Contents.{IsMade}
-use Rattle.hall_laws.proofs.HallDeciding.{serving_decides}
-use Rattle.hall_laws.proofs.HallMemory.{first_led, first_run, led_message, sound_along}
+use Rattle.hall_laws.specs.HallRuns.{IsTick, Station, StopsInSave, hall_after, seen_of}
+use Rattle.hall_laws.specs.Tangle.{StopsOnce, TangleIsDecided, first_hall, restarted_desk}
+use Rattle.hall_laws.proofs.{Contents.IsMade, HallProgress.room_same, HallSound.Sound, Memory.Led}
+use Rattle.hall_laws.proofs.HallProgress.{serving_decides, halls_are_not_stuck, has_room_same}
+use Rattle.hall_laws.proofs.HallMemory.{empty_node, first_run, led_served, sound_along, sound_empty}
 use Rattle.hall_laws.proofs.HallMemory.{sound_first, works_along_memory}
-use Rattle.hall_laws.proofs.HallMoves.{Moves, Play, Played, asked_so, by_frame, by_step}
-use Rattle.hall_laws.proofs.HallMoves.{sent_fits_in, stopped_so}
-use Rattle.hall_laws.proofs.HallProgress.{halls_are_not_stuck}
-use Rattle.hall_laws.proofs.HallSound.{Sound, SoundAt}
-use Rattle.hall_laws.proofs.HallTurns.{only_here, with_station}
-use Rattle.hall_laws.proofs.MemoryServes.{Led, led_enter}
+use Rattle.hall_laws.proofs.HallMoves.{Moves, Play, Played, asked_so, by_frame, by_step, Reached}
+use Rattle.hall_laws.proofs.HallMoves.{reached, sent_fits_in, stopped_so, told}
+use Rattle.hall_laws.proofs.HallGoing.{only_here, with_station}
 
 -- ---- what comes
-
-ours_1 : IsDesk 3 1
-ours_1 = (omega arith, omega arith)
-
-pub ours_2 : IsDesk 3 2
-ours_2 = (omega arith, omega arith)
 
 pub ours_3 : IsDesk 3 3
 ours_3 = (omega arith, omega arith)
@@ -88,7 +66,7 @@ proposes = record { from = 3; to = 3; body = Accept (ballot 1 3) 0 (entry 7) }
 abbrev rivals : Message
 rivals = record { from = 2; to = 3; body = Prepare (ballot 2 2) 0 }
 
-pub made : (number d : ℕ) → 1 ≤ number → number ≤ 9 → IsDesk 3 d → IsMade 3 (ballot number d)
+made : (number d : ℕ) → 1 ≤ number → number ≤ 9 → IsDesk 3 d → IsMade 3 (ballot number d)
 made number d low high ours = ((low, ours), omega (arith, high))
 
 -- ---- the moments
@@ -99,48 +77,52 @@ first_play = record {
   sent = [];
 }
 
-abbrev pub play_1 : Play
-play_1 = asked_so first_play 3 (request (third_home 3) (submit 3 7))
+-- a client submits the entry of this id at a desk; or a message comes, as this one of those sent
+pub data Deed : Type 0 where
+  Enters : ℕ → ℕ → Deed
+  Hears : Message → ℕ → Deed
 
-abbrev pub play_2 : Play
-play_2 = asked_so play_1 3 (request (third_home 3) (framed Two 7 (asks 3)))
+abbrev pub after_deed : Play → Deed → Play
+after_deed p (Enters d id) = asked_so p d (request (third_home d) (submit d id))
+after_deed p (Hears m at) = asked_so p m.to (request (third_home m.to) (framed Two 7 m))
 
-abbrev pub play_3 : Play
-play_3 = asked_so play_2 2 (request (third_home 2) (framed Two 7 (asks 2)))
+abbrev pub play_after : Play → List Deed → Play
+play_after p [] = p
+play_after p (x ∷ xs) = play_after (after_deed p x) xs
 
-abbrev pub play_4 : Play
-play_4 = asked_so play_3 3 (request (third_home 3) (framed Two 7 (gives 3)))
+-- it can come then
+abbrev pub CanCome : Play → Deed → Type 0
+CanCome p (Enters d id) =
+    IsDesk 3 d × (1 ≤ id) × (id ≤ 9) × (request (third_home d) (submit d id) ≡ Entered (entry id))
+    × (close_of (third_home d) (p.seen d) (as_it_goes (submit d id)) ≡ None)
+CanCome p (Hears m at) =
+    IsInRange 3 m × BodyHolds IsInFrame (IsMade 3) m.body × (nth_sent p.sent at ≡ Some m)
+    × (close_of (third_home m.to) (p.seen m.to) (as_it_goes (framed Two 7 m)) ≡ None)
 
-abbrev pub play_5 : Play
-play_5 = asked_so play_4 3 (request (third_home 3) (framed Two 7 (gives 2)))
+abbrev pub AllCome : Play → List Deed → Type 0
+AllCome p [] = Unit {0}
+AllCome p (x ∷ xs) = CanCome p x × AllCome (after_deed p x) xs
+
+abbrev firsts : List Deed
+firsts =
+    Enters 3 7 ∷ Hears (asks 3) 3 ∷ Hears (asks 2) 2 ∷ Hears (gives 3) 4 ∷ Hears (gives 2) 5
+    ∷ Hears proposes 8 ∷ []
 
 abbrev pub play_6 : Play
-play_6 = asked_so play_5 3 (request (third_home 3) (framed Two 7 proposes))
+play_6 = play_after first_play firsts
 
-abbrev pub play_7 : Play
-play_7 = asked_so play_6 2 (request (third_home 2) (submit 2 8))
+abbrev lasts : List Deed
+lasts = Enters 2 8 ∷ Hears rivals 12 ∷ Enters 1 9 ∷ []
 
-abbrev pub play_8 : Play
-play_8 = asked_so play_7 3 (request (third_home 3) (framed Two 7 rivals))
-
-abbrev pub play_9 : Play
-play_9 = asked_so play_8 1 (request (third_home 1) (submit 1 9))
+abbrev play_9 : Play
+play_9 = play_after play_6 lasts
 
 -- what desk 1 is opened again over, and so
-abbrev kept : Memory
-kept = record {
-  home = third_home 1;
-  stored = record { promised = ballot 0 0; vote = None; tried = 1 };
-  log = [];
-}
-
 abbrev again : NodeValue Memory
-again = record {
-  keeper = kept;
-  desk = opened kept.stored kept.log;
-  is_down = false;
-  told = nothing_told;
-}
+again = empty_node (third_home 1) 1
+
+abbrev kept : Memory
+kept = again.keeper
 
 abbrev play_10 : Play
 play_10 = stopped_so play_9 1 (seen_of again)
@@ -163,133 +145,53 @@ enters : CallsAreHappenings memory → (steps : List (HallStep Memory)) (p : Pla
 enters law steps p was d id ours low high asked stays =
     by_frame law steps p was d ours (submit d id) (submit_fits d id ours low high)
     (subst (λ r. Rattle.hall_laws.specs.OwnMessages.WereSentTo d p.sent
-    (Rattle.hall_laws.specs.Arriving.delivers r)) (sym asked) tt) stays
-    (λ x sound.
-    subst
+    (Rattle.hall_laws.specs.Arriving.delivers r)) (sym asked) tt) stays (λ x sound. subst
     (λ r. Led (third_home d) x (served (third_home d) (seen_of x) [] r)) (sym asked)
-    (led_enter (third_home d) ours x (entry id) (begun (seen_of x) [])
-    (entry_fits id low high) (first_led (third_home d) x sound)))
+    (led_served (third_home d) ours x (Entered (entry id)) (entry_fits id low high, tt) sound))
     (λ e is.
     let same : entry id ≡ e = (let both = sym asked ∙ is in cc) in
     subst (λ z. IsInFrame z) same (entry_fits id low high))
 
-pub moves_1 : CallsAreHappenings memory → Moves [] play_1
-unfolding close_of serve_frame call push_all start_if_grown enter
-moves_1 law =
-    enters law [] first_play first_played 3 7 ours_3 (omega arith) (omega arith) refl refl
+pub made_it : IsMade 3 (ballot 1 3)
+made_it = made 1 3 (omega arith) (omega arith) ours_3
 
-pub moves_2 : CallsAreHappenings memory → (steps : List (HallStep Memory)) → Played steps play_1
-    → Moves steps play_2
-unfolding close_of serve_frame call push_all start_if_grown enter take_event
-moves_2 law steps was =
-    by_frame law steps play_1 was 3 ours_3 (framed Two 7 (asks 3))
-    (record {
-      hall = omega arith;
-      goes = ((omega arith, omega arith), (omega arith, omega arith));
-      body = ((omega arith, omega arith, (omega arith, omega arith)), omega arith);
-    })
-    ((3, refl, refl), tt) refl
-    (λ x sound.
-    led_message 7 3 3 ours_3 x Two (asks 3)
-    (made 1 3 (omega arith) (omega arith) ours_3) sound refl)
-    (λ e is. absurd cc)
+-- each of these comes after the others
+pub come : CallsAreHappenings memory → (p : Play) (ds : List Deed) → Reached p → AllCome p ds
+    → Reached (play_after p ds)
+come law p [] was can = was
+come law p (Enters d id ∷ ds) was can =
+    come law (after_deed p (Enters d id)) ds (reached was.0
+    (enters law was.0 p was.1 d id can.0.0 can.0.1 can.0.2 can.0.3 can.0.4)) can.1
+come law p (Hears m at ∷ ds) was can =
+    come law (after_deed p (Hears m at)) ds
+    (told law p was m can.0.0 can.0.1 at can.0.2 can.0.3) can.1
 
-pub moves_3 : CallsAreHappenings memory → (steps : List (HallStep Memory)) → Played steps play_2
-    → Moves steps play_3
+firsts_come : AllCome first_play firsts
 unfolding close_of serve_frame call push_all start_if_grown enter take_event
-moves_3 law steps was =
-    by_frame law steps play_2 was 2 ours_2 (framed Two 7 (asks 2))
-    (record {
-      hall = omega arith;
-      goes = ((omega arith, omega arith), (omega arith, omega arith));
-      body = ((omega arith, omega arith, (omega arith, omega arith)), omega arith);
-    })
-    ((2, refl, refl), tt) refl
-    (λ x sound.
-    led_message 7 3 2 ours_2 x Two (asks 2)
-    (made 1 3 (omega arith) (omega arith) ours_3) sound refl)
-    (λ e is. absurd cc)
+firsts_come =
+    let to_3 : IsInRange 3 (asks 3) = record { from = ours_3; to = ours_3; body = refl } in
+    let to_2 : IsInRange 3 (asks 2) = record { from = ours_3; to = two_of_three; body = refl } in
+    let own : IsInRange 3 (gives 3) = record { from = ours_3; to = ours_3; body = refl } in
+    let his : IsInRange 3 (gives 2) = record { from = two_of_three; to = ours_3; body = refl } in
+    let last : IsInRange 3 proposes = record { from = ours_3; to = ours_3; body = refl } in
+    let fits = entry_fits 7 (omega arith) (omega arith) in
+    and (ours_3, omega arith, omega arith, refl, refl) (and (to_3, made_it, refl, refl)
+    (and (to_2, made_it, refl, refl) (and (own, (made_it, tt), refl, refl)
+    (and (his, (made_it, tt), refl, refl) (and (last, (made_it, fits), refl, refl) tt)))))
 
-pub moves_4 : CallsAreHappenings memory → (steps : List (HallStep Memory)) → Played steps play_3
-    → Moves steps play_4
-unfolding close_of serve_frame call push_all start_if_grown enter take_event
-moves_4 law steps was =
-    by_frame law steps play_3 was 3 ours_3 (framed Two 7 (gives 3))
-    (record {
-      hall = omega arith;
-      goes = ((omega arith, omega arith), (omega arith, omega arith));
-      body = ((omega arith, omega arith, (omega arith, omega arith)), omega arith, tt);
-    })
-    ((4, refl, refl), tt) refl
-    (λ x sound.
-    led_message 7 3 3 ours_3 x Two (gives 3)
-    (made 1 3 (omega arith) (omega arith) ours_3, tt) sound refl)
-    (λ e is. absurd cc)
+pub moves_6 : CallsAreHappenings memory → Reached play_6
+moves_6 law = come law first_play firsts ([], first_played) firsts_come
 
-pub moves_5 : CallsAreHappenings memory → (steps : List (HallStep Memory)) → Played steps play_4
-    → Moves steps play_5
+lasts_come : AllCome play_6 lasts
 unfolding close_of serve_frame call push_all start_if_grown enter take_event
-moves_5 law steps was =
-    by_frame law steps play_4 was 3 ours_3 (framed Two 7 (gives 2))
-    (record {
-      hall = omega arith;
-      goes = ((omega arith, omega arith), (omega arith, omega arith));
-      body = ((omega arith, omega arith, (omega arith, omega arith)), omega arith, tt);
-    })
-    ((5, refl, refl), tt) refl
-    (λ x sound.
-    led_message 7 3 3 ours_3 x Two (gives 2)
-    (made 1 3 (omega arith) (omega arith) ours_3, tt) sound refl)
-    (λ e is. absurd cc)
+lasts_come =
+    let his : IsInRange 3 rivals = record { from = two_of_three; to = ours_3; body = refl } in
+    and (two_of_three, omega arith, omega arith, refl, refl)
+    (and (his, made 2 2 (omega arith) (omega arith) two_of_three, refl, refl)
+    (and (one_of_three, omega arith, omega arith, refl, refl) tt))
 
-pub moves_6 : CallsAreHappenings memory → (steps : List (HallStep Memory)) → Played steps play_5
-    → Moves steps play_6
-unfolding close_of serve_frame call push_all start_if_grown enter take_event
-moves_6 law steps was =
-    by_frame law steps play_5 was 3 ours_3 (framed Two 7 proposes)
-    (record {
-      hall = omega arith;
-      goes = ((omega arith, omega arith), (omega arith, omega arith));
-      body = (
-        (omega arith, omega arith, (omega arith, omega arith)),
-        omega arith,
-        entry_fits 7 (omega arith) (omega arith),
-      );
-    })
-    ((8, refl, refl), tt) refl
-    (λ x sound.
-    led_message 7 3 3 ours_3 x Two proposes
-    (made 1 3 (omega arith) (omega arith) ours_3, entry_fits 7 (omega arith) (omega arith)) sound
-    refl)
-    (λ e is. absurd cc)
-
-moves_7 : CallsAreHappenings memory → (steps : List (HallStep Memory)) → Played steps play_6
-    → Moves steps play_7
-unfolding close_of serve_frame call push_all start_if_grown enter take_event
-moves_7 law steps was =
-    enters law steps play_6 was 2 8 ours_2 (omega arith) (omega arith) refl refl
-
-moves_8 : CallsAreHappenings memory → (steps : List (HallStep Memory)) → Played steps play_7
-    → Moves steps play_8
-unfolding close_of serve_frame call push_all start_if_grown enter take_event
-moves_8 law steps was =
-    by_frame law steps play_7 was 3 ours_3 (framed Two 7 rivals)
-    (record {
-      hall = omega arith;
-      goes = ((omega arith, omega arith), (omega arith, omega arith));
-      body = ((omega arith, omega arith, (omega arith, omega arith)), omega arith);
-    })
-    ((12, refl, refl), tt) refl
-    (λ x sound.
-    led_message 7 3 3 ours_3 x Two rivals
-    (made 2 2 (omega arith) (omega arith) ours_2) sound refl)
-    (λ e is. absurd cc)
-
-moves_9 : CallsAreHappenings memory → (steps : List (HallStep Memory)) → Played steps play_8
-    → Moves steps play_9
-unfolding close_of serve_frame call push_all start_if_grown enter take_event
-moves_9 law steps was =
-    enters law steps play_8 was 1 9 ours_1 (omega arith) (omega arith) refl refl
+moves_9 : CallsAreHappenings memory → Reached play_9
+moves_9 law = come law play_6 lasts (moves_6 law) lasts_come
 
 -- ---- desk 1 stops while it saves in a Tick of its own
 
@@ -307,12 +209,8 @@ its_asks =
     ∷ record { from = 1; to = 3; body = Prepare (ballot 2 1) 0 } ∷ []
 
 abbrev opened_again : Station Memory
-opened_again = record {
-  node = again;
-  talks = λ j. new_talk (third_home 1) Two;
-  wire = Two;
-  handed = None;
-}
+opened_again =
+    record { node = again; talks = λ j. new_talk (third_home 1) Two; wire = Two; handed = None }
 
 abbrev after_cut : List (HallStep Memory) → Hall Memory
 after_cut steps = with_station (hall_after first_hall steps) 1 opened_again []
@@ -333,7 +231,7 @@ holds_either = λ honest. record { only = λ u rest may. inl may; whole = λ nev
 saves : (steps : List (HallStep Memory)) → Played steps play_9
     → StopsInSave memory ((hall_after first_hall steps).desks 1).node kept left_undone
 saves steps was =
-    let own = was.sound.desks 1 ours_1 in
+    let own = was.sound.desks 1 one_of_three in
     record {
       up = own.works.up;
       home = sym own.at;
@@ -345,7 +243,7 @@ saves steps was =
           (λ (u : Home). HoldsStep memory kept ((hall_after first_hall steps).desks 1).node.desk
           (step_at u ((hall_after first_hall steps).desks 1).node.desk Tick)) (sym own.at)
           (subst (λ (u : Seen). HoldsStep memory kept u.desk (step_at (third_home 1) u.desk Tick))
-          (sym (was.seen 1 ours_1)) holds_either);
+          (sym (was.seen 1 one_of_three)) holds_either);
     }
 
 is_opened : IsOpened memory kept opened_again
@@ -367,46 +265,14 @@ is_opened = record {
   talks = λ j. refl;
 }
 
-sound_again : SoundAt (third_home 1) again
-sound_again = record {
-  at = refl;
-  works = record { up = refl; stored = refl; log = refl };
-  holds =
-      record {
-        contents =
-            record {
-              promised = inl refl;
-              vote = tt;
-              log = tt;
-              role = tt;
-              queue = tt;
-            };
-        numbers = record { tried = omega arith; seen = omega arith };
-      };
-  range =
-      record {
-        log = omega arith;
-        role = tt;
-        vote = tt;
-        ballots =
-            record {
-              promised = inl refl;
-              vote = tt;
-              log = tt;
-              role = tt;
-              queue = tt;
-            };
-      };
-}
-
 cuts : (steps : List (HallStep Memory)) → Played steps play_9
     → HallGoes memory 3 (cut steps).event (hall_after first_hall steps) (after_cut steps)
 cuts steps was =
-    let own = was.sound.desks 1 ours_1 in
+    let own = was.sound.desks 1 one_of_three in
     let at = own.at in
-    let seen = was.seen 1 ours_1 in
+    let seen = was.seen 1 one_of_three in
     record {
-      ours = ours_1;
+      ours = one_of_three;
       next = inr (subst (λ (u : Home). IsTick u its_tick) (sym at) refl);
       brings =
           subst (λ (u : Home). FrameWasSent u (hall_after first_hall steps).sent its_tick) (sym at)
@@ -424,13 +290,14 @@ cuts steps was =
 moves_10 : (steps : List (HallStep Memory)) → Played steps play_9
     → Played (steps ++ cut steps ∷ []) play_10
 moves_10 steps was =
-    by_step steps play_9 was 1 ours_1 (cut steps) opened_again refl (cuts steps was) sound_again
+    by_step steps play_9 was 1 one_of_three (cut steps) opened_again refl (cuts steps was)
+    (sound_empty (third_home 1) 1 (omega arith))
 
 moves_11 : CallsAreHappenings memory → (steps : List (HallStep Memory)) → Played steps play_10
     → Moves steps play_11
 unfolding close_of serve_frame call push_all start_if_grown enter take_event
 moves_11 law steps was =
-    enters law steps play_10 was 1 9 ours_1 (omega arith) (omega arith) refl refl
+    enters law steps play_10 was 1 9 one_of_three (omega arith) (omega arith) refl refl
 
 -- what the desks know then
 knows_1 : (play_11.seen 1).desk ≡ restarted_desk
@@ -447,75 +314,46 @@ knows_3 = refl
 
 -- ---- a majority with room
 
--- what holds of desks 1 and 3 holds of each of these
-of_these : (P : ℕ → Type 0) → P 1 → P 3 → (j : ℕ) → Has these j → P j
-of_these P one three j (inl is) = subst P is one
-of_these P one three j (inr (inl is)) = subst P is three
-of_these P one three j (inr (inr none)) = absurd none
-
-majority : IsMajority 3 these
-majority = record {
-  distinct = (λ has. go has, (λ none. none, tt));
-  ours = of_these (λ j. IsDesk 3 j) ours_1 ours_3;
-  many = omega arith;
-}
-  where
-    go : Has (3 ∷ []) 1 → ⊥
-    go (inl is) = absurd (omega (arith, is))
-    go (inr none) = none
-
 has : Has these 1
 has = inl refl
 
-room_in : (w : World) → w.desks 1 ≡ restarted_desk → w.desks 3 ≡ outbid_desk
-    → HasRoom 1 these w 1
-room_in w one three = record {
-  logs =
-      of_these (λ j. length (w.desks j).log + 2 * 1 ≤ 65536)
-      (subst (λ (x : Desk). length x.log + 2 * 1 ≤ 65536) (sym one) (omega arith))
-      (subst (λ (x : Desk). length x.log + 2 * 1 ≤ 65536) (sym three) (omega arith));
-  promised =
-      of_these (λ j. (w.desks j).stored.promised.number + 2 * 1 ≤ 4294967295)
-      (subst (λ (x : Desk). x.stored.promised.number + 2 * 1 ≤ 4294967295) (sym one) (omega arith))
-      (subst (λ (x : Desk). x.stored.promised.number + 2 * 1 ≤ 4294967295) (sym three)
-      (omega arith));
-  tried = subst (λ (x : Desk). x.stored.tried + 2 * 1 ≤ 4294967295) (sym one) (omega arith);
-  seen = subst (λ (x : Desk). x.seen + 2 * 1 ≤ 4294967295) (sym one) (omega arith);
-}
+-- what the two know
+abbrev known : World
+known = record { desks = λ j. if eqb j 1 then restarted_desk else outbid_desk; sent = [] }
 
--- the numbers that are needed, by what the two desks know
-abbrev needs : Desk → Desk → ℕ
-needs x y =
-    numbers_needed 1 these (record { desks = λ j. if eqb j 1 then x else y; sent = [] }) 1
+same_known : (w : World) → w.desks 1 ≡ restarted_desk → w.desks 3 ≡ outbid_desk → (j : ℕ)
+    → Has these j → known.desks j ≡ w.desks j
+same_known w one three = of_these (λ j. known.desks j ≡ w.desks j) (sym one) (sym three)
+
+logs_in : (j : ℕ) → Has these j → length (known.desks j).log + 2 * 1 ≤ 65536
+logs_in = of_these (λ j. length (known.desks j).log + 2 * 1 ≤ 65536) (omega arith) (omega arith)
+
+-- four numbers are needed
+numbers_in : (j : ℕ) → Has these j → (known.desks j).stored.promised.number + 4 ≤ 4294967295
+numbers_in =
+    of_these (λ j. (known.desks j).stored.promised.number + 4 ≤ 4294967295) (omega arith)
+    (omega arith)
+
+room_in : (w : World) → w.desks 1 ≡ restarted_desk → w.desks 3 ≡ outbid_desk → HasRoom 1 these w 1
+room_in w one three =
+    has_room_same known w 1 these 1 has (same_known w one three)
+    (record {
+      logs = logs_in;
+      promised = λ j its. let some = numbers_in j its in omega arith;
+      tried = omega arith;
+      seen = omega arith;
+    })
 
 turn_room_in : (w : World) → w.desks 1 ≡ restarted_desk → w.desks 3 ≡ outbid_desk
     → HasTurnRoom 1 these w 1
 turn_room_in w one three =
-    record {
-      logs =
-          of_these (λ j. length (w.desks j).log + 2 * 1 ≤ 65536)
-          (subst (λ (x : Desk). length x.log + 2 * 1 ≤ 65536) (sym one) (omega arith))
-          (subst (λ (x : Desk). length x.log + 2 * 1 ≤ 65536) (sym three) (omega arith));
-      promised =
-          subst
-          (λ (c : ℕ). (j : ℕ) → Has these j → (w.desks j).stored.promised.number + c
-          ≤ 4294967295) (sym needed)
-          (of_these (λ j. (w.desks j).stored.promised.number + 4 ≤ 4294967295)
-          (subst (λ (x : Desk). x.stored.promised.number + 4 ≤ 4294967295) (sym one) (omega arith))
-          (subst (λ (x : Desk). x.stored.promised.number + 4 ≤ 4294967295) (sym three)
-          (omega arith)));
-      tried =
-          subst (λ (c : ℕ). (w.desks 1).stored.tried + c ≤ 4294967295) (sym needed)
-          (subst (λ (x : Desk). x.stored.tried + 4 ≤ 4294967295) (sym one) (omega arith));
-      seen =
-          subst (λ (c : ℕ). (w.desks 1).seen + c ≤ 4294967295) (sym needed)
-          (subst (λ (x : Desk). x.seen + 4 ≤ 4294967295) (sym one) (omega arith));
-    }
-  where
-    needed : numbers_needed 1 these w 1 ≡ 4
-    needed =
-        let same : numbers_needed 1 these w 1 ≡ needs (w.desks 1) (w.desks 3) = refl in
-        same ∙ (λ i. needs (one i) (three i))
+    room_same known w 1 these 1 has (same_known w one three)
+    (record {
+      logs = logs_in;
+      promised = numbers_in;
+      tried = let few : 2 + 4 ≤ 4294967295 = omega arith in few;
+      seen = let few : 0 + 4 ≤ 4294967295 = omega arith in few;
+    })
 
 -- ---- all of it
 
@@ -529,8 +367,7 @@ pub cut_front : (a b : List (HallStep Memory)) (c : HallStep Memory)
 cut_front [] b c = refl
 cut_front (x ∷ a) b c = ap (λ (s : List (HallStep Memory)). x ∷ s) (cut_front a b c)
 
-stops_once : (a b : List (HallStep Memory)) → Played a play_9
-    → StopsOnce ((a ++ cut a ∷ []) ++ b)
+stops_once : (a b : List (HallStep Memory)) → Played a play_9 → StopsOnce ((a ++ cut a ∷ []) ++ b)
 stops_once a b was = record {
   at = length a;
   step = cut a;
@@ -539,8 +376,7 @@ stops_once a b was = record {
   keeper = kept;
   rest = left_undone;
   saving =
-      subst
-      (λ (s : List (HallStep Memory)).
+      subst (λ (s : List (HallStep Memory)).
       StopsInSave memory ((hall_after first_hall s).desks 1).node kept left_undone)
       (sym (cut_front a b (cut a))) (saves a was);
   opened = is_opened;
@@ -565,25 +401,8 @@ can_serve law stops steps sound = record {
 pub tangle_is_decided : CallsAreHappenings memory → StopsMakeARun → NoQueueIsStuck
     → NoServingDeskIsStuck → TangleIsDecided
 tangle_is_decided law stops queue serving =
-    let m1 = moves_1 law in
-    let a1 = m1.more in
-    let m2 = moves_2 law a1 m1.played in
-    let a2 = a1 ++ m2.more in
-    let m3 = moves_3 law a2 m2.played in
-    let a3 = a2 ++ m3.more in
-    let m4 = moves_4 law a3 m3.played in
-    let a4 = a3 ++ m4.more in
-    let m5 = moves_5 law a4 m4.played in
-    let a5 = a4 ++ m5.more in
-    let m6 = moves_6 law a5 m5.played in
-    let a6 = a5 ++ m6.more in
-    let m7 = moves_7 law a6 m6.played in
-    let a7 = a6 ++ m7.more in
-    let m8 = moves_8 law a7 m7.played in
-    let a8 = a7 ++ m8.more in
-    let m9 = moves_9 law a8 m8.played in
-    let a9 = a8 ++ m9.more in
-    ends law stops queue serving a9 m9.played
+    let was = moves_9 law in
+    ends law stops queue serving was.0 was.1
   where
     ends : CallsAreHappenings memory → StopsMakeARun → NoQueueIsStuck → NoServingDeskIsStuck
         → (a : List (HallStep Memory)) → Played a play_9 → TangleIsDecided
@@ -598,7 +417,7 @@ tangle_is_decided law stops queue serving =
         whole law stops queue serving steps once is =
             let g = hall_after first_hall steps in
             let first : (g.desks 1).node.desk ≡ restarted_desk =
-            ap (λ (s : Seen). s.desk) (is.seen 1 ours_1) ∙ knows_1 in
+            ap (λ (s : Seen). s.desk) (is.seen 1 one_of_three) ∙ knows_1 in
             let third : (g.desks 3).node.desk ≡ outbid_desk =
             ap (λ (s : Seen). s.desk) (is.seen 3 ours_3) ∙ knows_3 in
             let waits : (g.desks 1).node.desk.queue ≡ entry 9 ∷ [] =
@@ -610,11 +429,9 @@ tangle_is_decided law stops queue serving =
             × ComesTo 3 past (hall_after first_hall s)
             × CanDecide 3 1 these (after 3 past) (entry 9 ∷ []) []) (take-length steps)
             (halls_are_not_stuck memory law stops queue 3 first_hall steps (length steps) 1 these
-            (entry 9 ∷ []) [] is.run majority has
-            (subst (λ (s : List (HallStep Memory)).
+            (entry 9 ∷ []) [] is.run majority has (subst (λ (s : List (HallStep Memory)).
             ((hall_after first_hall s).desks 1).node.desk.queue ≡ entry 9 ∷ [])
-            (sym (take-length steps)) waits)
-            (subst (λ (s : List (HallStep Memory)).
+            (sym (take-length steps)) waits) (subst (λ (s : List (HallStep Memory)).
             HasRoom 1 these (world_of (hall_after first_hall s)) 1)
             (sym (take-length steps)) room)) in
             record {
@@ -622,7 +439,7 @@ tangle_is_decided law stops queue serving =
               run = is.run;
               stops = once;
               restarted = first;
-              rival = ap (λ (s : Seen). s.desk) (is.seen 2 ours_2) ∙ knows_2;
+              rival = ap (λ (s : Seen). s.desk) (is.seen 2 two_of_three) ∙ knows_2;
               outbid = third;
               majority = majority;
               has = has;

@@ -2,37 +2,30 @@
 use Rattle.std.proofs.Common.{◌≡◌, ◌≤◌, refl, sym, ap, subst, ◌∙◌, ℕ, zero, suc, Bool, true, false}
 use Rattle.std.proofs.Common.{if◌then◌else◌, List, [], ◌∷◌, ◌++◌, length, take, Option, Some, None}
 use Rattle.std.proofs.Common.{Result, Ok, Err, slice_get, arith}
-use Rattle.acceptor.specs.declared.message.Body.{Body}
-use Rattle.acceptor.specs.declared.message.Body.TheVariants.{Behind}
-use Rattle.acceptor.specs.declared.message.Message.{Message}
-use Rattle.learner.proofs.Goes.{put_all, put_here}
-use Rattle.learner.proofs.Runs.{desk_from_test}
-use Rattle.learner.specs.Desks.{Desk, restarted}
-use Rattle.learner.specs.Laws.{DesksAreInRange, StepsStayInRange}
+use Rattle.acceptor.specs.declared.message.{Body.Body, Body.TheVariants.Behind, Message.Message}
+use Rattle.learner.proofs.{Goes.put_all, Goes.put_here, Runs.desk_from_test}
+use Rattle.learner.specs.{Desks.Desk, Desks.restarted, declared.event.DeskEvent.DeskEvent}
+use Rattle.learner.specs.{Laws.DesksAreInRange, Laws.StepsStayInRange, Steps.step}
 use Rattle.learner.specs.Ranges.{AreInRange, DeskIsInRange, DoneIsInRange}
-use Rattle.learner.specs.Steps.{Done, is_desk, step}
-use Rattle.learner.specs.Worlds.{World, after, at_desk, delivered, happens, new_world, nth_sent}
-use Rattle.learner.specs.Worlds.{put, restart_at, world_after}
-use Rattle.learner.specs.declared.event.DeskEvent.{DeskEvent}
+use Rattle.learner.specs.{Steps.Done, declared.event.WorldEvent.TheVariants.Deliver as DeliverNth}
+use Rattle.learner.specs.{Steps.is_desk, declared.event.WorldEvent.TheVariants.Restart as RestartAt}
+use Rattle.learner.specs.Worlds.{World, at_desk, delivered, happens, new_world, nth_sent, put}
+use Rattle.learner.specs.Worlds.{restart_at, world_after}
 use Rattle.learner.specs.declared.event.DeskEvent.TheVariants.{Submit, Start, Tick, Deliver}
-use Rattle.learner.specs.declared.event.WorldEvent.{WorldEvent}
-use Rattle.learner.specs.declared.event.WorldEvent.TheVariants.{Submit as SubmitAt}
+use Rattle.learner.specs.declared.event.WorldEvent.{WorldEvent, TheVariants.Submit as SubmitAt}
 use Rattle.learner.specs.declared.event.WorldEvent.TheVariants.{Start as StartAt, Tick as TickAt}
-use Rattle.learner.specs.declared.event.WorldEvent.TheVariants.{Deliver as DeliverNth}
-use Rattle.learner.specs.declared.event.WorldEvent.TheVariants.{Restart as RestartAt}
 use Rattle.proposer.specs.declared.fault.Refusal.{Refusal}
 use Rattle.replica.specs.Lengths.{length_told}
 use Rattle.hall_laws.specs.Stops.{Answered, Happening, Stopped, StopsMakeARun, events_of, goes_on}
 use Rattle.hall_laws.specs.Stops.{place, real_run, stopped}
-use Rattle.hall_laws.proofs.Saying.{AllSay, Says, StepSays, step_says, tells_no_more}
+use Rattle.hall_laws.proofs.Plans.{AllSay, Says, StepSays, step_says, tells_no_more}
 
 -- ---- lists of messages
 
 -- what was reported is no more than the log of the desk that reported it
 abbrev pub AreTold : (ℕ → Desk) → List Message → Type 0
 AreTold desks [] = Unit {0}
-AreTold desks (m ∷ ms) =
-    (length_told m.body ≤ length (desks m.from).log) × AreTold desks ms
+AreTold desks (m ∷ ms) = (length_told m.body ≤ length (desks m.from).log) × AreTold desks ms
 
 -- where this message says, after that one of the same desk, how long the log is, it says no less
 abbrev pub IsNoLess : Message → Message → Type 0
@@ -53,8 +46,7 @@ none_both m (x ∷ xs) ys h k = (h.0, none_both m xs ys h.1 k)
 
 -- what desk d of n sends with a log of this length is no less than what it reported by then
 new_none : (n d top : ℕ) (m : Message) (ms : List Message)
-    → (m.from ≡ d → length_told m.body ≤ top) → AllSay top ms → AreInRange n d ms
-    → NoneIsLess m ms
+    → (m.from ≡ d → length_told m.body ≤ top) → AllSay top ms → AreInRange n d ms → NoneIsLess m ms
 new_none n d top m [] h says range = tt
 new_none n d top m (x ∷ xs) h says range = (
   λ len same behind.
@@ -64,8 +56,7 @@ new_none n d top m (x ∷ xs) h says range = (
   new_none n d top m xs h says.1 range.1,
 )
 
-new_order : (n d top : ℕ) (ms : List Message) → AllSay top ms → AreInRange n d ms
-    → AreInOrder ms
+new_order : (n d top : ℕ) (ms : List Message) → AllSay top ms → AreInRange n d ms → AreInOrder ms
 new_order n d top [] says range = tt
 new_order n d top (m ∷ ms) says range = (
   new_none n d top m ms (λ same. tells_no_more top m.body says.0) says.1 range.1,
@@ -78,12 +69,9 @@ more_order : (n d top : ℕ) (desks : ℕ → Desk) (xs ms : List Message) → A
 more_order n d top desks [] ms order told grows says range = new_order n d top ms says range
 more_order n d top desks (m ∷ xs) ms order told grows says range = (
   none_both m xs ms order.0
-      (new_none n d top m ms
-      (λ same.
-      let most : length_told m.body ≤ length (desks d).log =
-      subst (λ (j : ℕ). length_told m.body ≤ length (desks j).log) same told.0 in
-      omega arith)
-      says range),
+      (new_none n d top m ms (λ same.
+      let most : length_told m.body ≤ length (desks d).log = rw same at told.0 in
+      omega arith) says range),
   more_order n d top desks xs ms order.1 told.1 grows says range,
 )
 
@@ -137,22 +125,16 @@ after_grows : (n d : ℕ) (w : World) (r : Result Done Refusal) → IsGrown w
     → StepSays (w.desks d) r → DoneIsInRange n d r → Grows w (world_after w d r)
 after_grows n d w (Ok r) h says range =
     let top : ℕ = length r.desk.log in
-    let longer : AreLonger w.desks (put w.desks d r.desk) =
-    put_longer w.desks d r.desk says.1 in
+    let longer : AreLonger w.desks (put w.desks d r.desk) = put_longer w.desks d r.desk says.1 in
     let here : (j : ℕ) → j ≡ d → top ≤ length (put w.desks d r.desk j).log =
     λ j same. put_here (λ i z. top ≤ length z.log) w.desks d r.desk (omega arith) j same in
-    record {
-      grown =
-          record {
-            order =
-                more_order n d top w.desks w.sent r.messages h.order h.told says.1 says.0 range.1;
-            told =
-                told_both (put w.desks d r.desk) w.sent r.messages
-                (told_longer w.desks (put w.desks d r.desk) w.sent longer h.told)
-                (new_told n d top (put w.desks d r.desk) r.messages here says.0 range.1);
-          };
-      longer = longer;
-    }
+    search (
+      more_order n d top w.desks w.sent r.messages h.order h.told says.1 says.0 range.1,
+      told_both (put w.desks d r.desk) w.sent r.messages
+          (told_longer w.desks (put w.desks d r.desk) w.sent longer h.told)
+          (new_told n d top (put w.desks d r.desk) r.messages here says.0 range.1),
+      longer,
+    )
 after_grows n d w (Err why) h says range = stays w h
 
 -- the desks of a world are in their ranges
@@ -177,19 +159,16 @@ restart_grows n d w h = go (is_desk n d)
     longer : AreLonger w.desks (put w.desks d (restarted (w.desks d)))
     longer = put_longer w.desks d (restarted (w.desks d)) (omega arith)
 
-    go : (t : Bool)
-        → Grows w
+    go : (t : Bool) → Grows w
         (if t then record { desks = put w.desks d (restarted (w.desks d)); sent = w.sent } else w)
     go false = stays w h
-    go true = record {
-      grown =
-          record {
-            order = h.order;
-            told =
-                told_longer w.desks (put w.desks d (restarted (w.desks d))) w.sent longer h.told;
-          };
-      longer = longer;
-    }
+    go true =
+        search (
+          h.order,
+          told_longer w.desks (put w.desks d (restarted (w.desks d))) w.sent longer
+              h.told,
+          longer,
+        )
 
 given_grows : StepsStayInRange → (n : ℕ) (w : World) (m : Option Message) → Ranged n w
     → IsGrown w → Grows w (delivered n w m)
@@ -227,20 +206,17 @@ run_grows : StepsStayInRange → (n : ℕ) (w : World) (hs : List Happening)
     → ((i : ℕ) → Ranged n (real_run n w (take i hs))) → IsGrown w → IsGrown (real_run n w hs)
 run_grows stay n w [] ranged h = h
 run_grows stay n w (x ∷ hs) ranged h =
-    run_grows stay n (goes_on n w x) hs (λ i. ranged (suc i))
-    (going_grows stay n w x (ranged 0) h)
+    run_grows stay n (goes_on n w x) hs (λ i. ranged (suc i)) (going_grows stay n w x (ranged 0) h)
 
 -- so it is after any happenings
 pub real_grown : StepsStayInRange → StopsMakeARun → DesksAreInRange → (n : ℕ)
     (hs : List Happening) → IsGrown (real_run n new_world hs)
 real_grown stay stops range n hs =
     let made = stops n hs in
-    run_grows stay n new_world hs
-    (λ i d.
+    run_grows stay n new_world hs (λ i d.
     let moment = made.1.moments i in
     let events : List WorldEvent = take moment.0 (events_of n new_world hs made.0) in
-    subst (λ (desks : ℕ → Desk). DeskIsInRange n (desks d)) (sym moment.1.desks)
-    (range n events d))
+    subst (λ (desks : ℕ → Desk). DeskIsInRange n (desks d)) (sym moment.1.desks) (range n events d))
     (record { order = tt; told = tt })
 
 -- ---- two messages

@@ -1,29 +1,21 @@
 -- Halls whose desks lose work again and again are halls in which none is lost.
-use Rattle.std.proofs.Common.{◌≡◌, ◌≢◌, inl, inr, refl, sym, ap, subst, ◌∙◌, ℕ, zero, suc, Bool}
-use Rattle.std.proofs.Common.{true, false, eqb, if◌then◌else◌, List, [], ◌∷◌, ◌++◌, None, Some}
-use Rattle.std.proofs.Common.{append_assoc}
-use Rattle.std.specs.Prelude.{slice_get}
-use Rattle.std.proofs.lemmas.Bool.{eqb-true, eqb-false}
+use Rattle.learner.{proofs.Cases.by_test, specs.Worlds.nth_sent}
+use Rattle.std.proofs.Common.{◌≡◌, ◌≢◌, inl, inr, refl, sym, ap, subst, ◌∙◌, ℕ, zero, suc, eqb}
+use Rattle.std.proofs.Common.{List, [], ◌∷◌, ◌++◌, None, Some, append_assoc}
+use Rattle.std.{specs.Prelude.slice_get, proofs.lemmas.Bool.eqb-true, proofs.lemmas.Bool.eqb-false}
 use Rattle.acceptor.specs.declared.message.Message.{Message}
-use Rattle.learner.specs.declared.event.DeskEvent.{DeskEvent}
-use Rattle.learner.specs.declared.event.DeskEvent.TheVariants.{Submit, Start, Tick, Deliver}
-use Rattle.learner.specs.Worlds.{nth_sent}
-use Rattle.serving.specs.Connection.{asked}
-use Rattle.serving.specs.Making.{calls_of}
-use Rattle.serving.specs.Serving.{Act}
-use Rattle.serving.specs.TurnLaw.{Began, Came, Rested, Took, Turn}
-use Rattle.store.specs.declared.home.Home.{Home}
-use Rattle.store.specs.declared.keeper.Keeper.{Ghosts}
+use Rattle.learner.specs.declared.event.DeskEvent.{DeskEvent, TheVariants.Deliver}
+use Rattle.serving.specs.{Connection.asked, Making.calls_of, Serving.Act}
+use Rattle.serving.specs.TurnLaw.{Began, Turn}
+use Rattle.store.specs.declared.{home.Home.Home, keeper.Keeper.Ghosts}
 use Rattle.hall_laws.specs.HallRuns.{AreSteps, CutAt, Hall, HallEvent, HallGoes, HallStep}
 use Rattle.hall_laws.specs.HallRuns.{IsHallRun, OnlyAt, OpenedAt, SettledAt, Station, TickedAt}
 use Rattle.hall_laws.specs.HallRuns.{TurnAt, TurnWasSent, acts_of, hall_after, home_at}
-use Rattle.hall_laws.specs.Losses.{AreLosses, ArePartOf, Loss, LossesAreNothing}
-use Rattle.hall_laws.specs.Losses.{hall_past, hall_without}
-use Rattle.hall_laws.specs.Lost.{AreWorkOf, GoesWithout, IsFoundAt, Loses, LostWorkIsNothing}
-use Rattle.hall_laws.specs.OwnMessages.{WereSentTo, sent_after}
-use Rattle.hall_laws.specs.Served.{IsSentTo, all_handed_out}
-use Rattle.hall_laws.specs.Arriving.{delivers}
-use Rattle.hall_laws.proofs.HallFree.{after_both, only_of, run_more}
+use Rattle.hall_laws.specs.Losses.{AreLosses, ArePartOf, Loss, LossesAreNothing, hall_past}
+use Rattle.hall_laws.specs.{Losses.hall_without, Served.IsSentTo, Arriving.delivers}
+use Rattle.hall_laws.specs.{Served.all_handed_out, OwnMessages.WereSentTo, OwnMessages.sent_after}
+use Rattle.hall_laws.specs.Lost.{AreWorkOf, GoesWithout, Loses, LostWorkIsNothing}
+use Rattle.hall_laws.proofs.HallGoing.{after_both, only_of, run_more}
 
 -- ---- messages with some left out
 
@@ -48,15 +40,12 @@ part_both ms (x ∷ xs) more (inr h) =
 
 part_got : (ms xs : List Message) (at : ℕ) (m : Message) → ArePartOf ms xs
     → slice_get ms at ≡ Some m → (k : ℕ) × (slice_get xs k ≡ Some m)
-part_got ms [] at m h got =
-    absurd (let none : None ≡ Some m = subst (λ z. slice_get z at ≡ Some m) h got in cc)
+part_got ms [] at m h got = absurd (let none : None ≡ Some m = rw h at got in cc)
 part_got ms (x ∷ xs) at m (inl h) got =
     let r = part_got ms xs at m h got in (suc r.0, r.1)
-part_got ms (x ∷ xs) at m (inr h) got =
-    by at (λ i is. part_got h.0 xs i m h.2 is) (subst (λ z. slice_get z at ≡ Some m) h.1 got)
+part_got ms (x ∷ xs) at m (inr h) got = by at (λ i is. part_got h.0 xs i m h.2 is) (rw h.1 at got)
   where
-    by : (i : ℕ)
-        → ((j : ℕ) → slice_get h.0 j ≡ Some m → (k : ℕ) × (slice_get xs k ≡ Some m))
+    by : (i : ℕ) → ((j : ℕ) → slice_get h.0 j ≡ Some m → (k : ℕ) × (slice_get xs k ≡ Some m))
         → slice_get (x ∷ h.0) i ≡ Some m → (k : ℕ) × (slice_get (x ∷ xs) k ≡ Some m)
     by zero later is = (0, is)
     by (suc i) later is = let r = later i is in (suc r.0, r.1)
@@ -68,10 +57,8 @@ part_nth ms xs (suc at) m h got = let r = part_got ms xs at m h got in (suc r.0,
 
 event_part : (d : ℕ) (ms xs : List Message) (event : DeskEvent) → ArePartOf ms xs
     → IsSentTo d ms event → IsSentTo d xs event
-event_part d ms xs (Submit e) h s = tt
-event_part d ms xs Start h s = tt
-event_part d ms xs Tick h s = tt
 event_part d ms xs (Deliver m) h s = let r = part_nth ms xs s.0 m h s.1 in (r.0, r.1, s.2)
+event_part d ms xs _ h s = tt
 
 sent_part : (d : ℕ) (ms xs : List Message) (es : List DeskEvent) → ArePartOf ms xs
     → WereSentTo d ms es → WereSentTo d xs es
@@ -80,11 +67,8 @@ sent_part d ms xs (e ∷ es) h s = (event_part d ms xs e h s.0, sent_part d ms x
 
 turn_part : (home : Home) (ms xs : List Message) (turn : Turn) → ArePartOf ms xs
     → TurnWasSent home ms turn → TurnWasSent home xs turn
-turn_part home ms xs (Came piece) h s = tt
-turn_part home ms xs (Began one) h s =
-    sent_part home.desk ms xs (delivers (asked home one)) h s
-turn_part home ms xs Rested h s = tt
-turn_part home ms xs (Took bytes) h s = tt
+turn_part home ms xs (Began one) h s = sent_part home.desk ms xs (delivers (asked home one)) h s
+turn_part home ms xs _ h s = tt
 
 -- ---- the same steps, where more was sent
 
@@ -97,56 +81,49 @@ only_said : {K : Type 0} (d : ℕ) (acts : List Act) (h g : Hall K) (sent : List
 only_said d acts h g sent only = record { others = only.others; sent = refl }
 
 goes_said : {K : Type 0} (k : Ghosts K) (n : ℕ) (event : HallEvent) (h g : Hall K)
-    (sent : List Message)
-    → ArePartOf h.sent sent → HallGoes k n event h g
+    (sent : List Message) → ArePartOf h.sent sent → HallGoes k n event h g
     → HallGoes k n event (saying h sent) (saying g (sent_after sent (acts_of event)))
-goes_said k n (TurnAt d t acts) h g sent part s = record {
-  ours = s.ours;
-  turn = s.turn;
-  wire = s.wire;
-  done = s.done;
-  brings = turn_part (home_at k (h.desks d)) h.sent sent t.turn part s.brings;
-  only = only_said d acts h g sent s.only;
-}
-goes_said k n (TickedAt d one acts) h g sent part s = record {
-  ours = s.ours;
-  asked = s.asked;
-  rest = s.rest;
-  parts = s.parts;
-  made = s.made;
-  talks = s.talks;
-  wire = s.wire;
-  only = only_said d acts h g sent s.only;
-}
-goes_said k n (SettledAt d) h g sent part s = record {
-  ours = s.ours;
-  settles = s.settles;
-  talks = s.talks;
-  wire = s.wire;
-  only = only_said d [] h g sent s.only;
-}
-goes_said k n (OpenedAt d) h g sent part s = record {
-  ours = s.ours;
-  keeper = s.keeper;
-  store = s.store;
-  opened = s.opened;
-  only = only_said d [] h g sent s.only;
-}
-goes_said k n (CutAt d one acts) h g sent part s = record {
-  ours = s.ours;
-  next = s.next;
-  brings =
+goes_said k n (TurnAt d t acts) h g sent part s =
+    search (
+      s.ours,
+      s.turn,
+      s.wire,
+      s.done,
+      turn_part (home_at k (h.desks d)) h.sent sent t.turn
+          part s.brings,
+      only_said d acts h g sent s.only,
+    )
+goes_said k n (TickedAt d one acts) h g sent part s =
+    search (
+      s.ours,
+      s.asked,
+      s.rest,
+      s.parts,
+      s.made,
+      s.talks,
+      s.wire,
+      only_said d acts h g sent
+          s.only,
+    )
+goes_said k n (SettledAt d) h g sent part s =
+    search (s.ours, s.settles, s.talks, s.wire, only_said d [] h g sent s.only)
+goes_said k n (OpenedAt d) h g sent part s =
+    search (s.ours, s.keeper, s.store, s.opened, only_said d [] h g sent s.only)
+goes_said k n (CutAt d one acts) h g sent part s =
+    search (
+      s.ours,
+      s.next,
       sent_part (home_at k (h.desks d)).desk h.sent sent
-      (delivers (asked (home_at k (h.desks d)) one)) part s.brings;
-  rest = s.rest;
-  parts = s.parts;
-  node = s.node;
-  calls = s.calls;
-  keeper = s.keeper;
-  store = s.store;
-  opened = s.opened;
-  only = only_said d acts h g sent s.only;
-}
+          (delivers (asked (home_at k (h.desks d)) one)) part s.brings,
+      s.rest,
+      s.parts,
+      s.node,
+      s.calls,
+      s.keeper,
+      s.store,
+      s.opened,
+      only_said d acts h g sent s.only,
+    )
 
 record Said {K : Type 0} (k : Ghosts K) (n : ℕ) (h : Hall K) (ss : List (HallStep K))
     (sent : List Message) : Type 0 where
@@ -158,8 +135,7 @@ record Said {K : Type 0} (k : Ghosts K) (n : ℕ) (h : Hall K) (ss : List (HallS
   part : ArePartOf (hall_after h ss).sent after
 
 said : {K : Type 0} (k : Ghosts K) (n : ℕ) (h : Hall K) (ss : List (HallStep K))
-    (sent : List Message)
-    → ArePartOf h.sent sent → AreSteps k n h ss → Said k n h ss sent
+    (sent : List Message) → ArePartOf h.sent sent → AreSteps k n h ss → Said k n h ss sent
 said k n h [] sent part steps = record {
   steps = [];
   taken = tt;
@@ -172,8 +148,7 @@ said {K} k n h (s ∷ ss) sent part steps =
     let now = sent_after sent (acts_of s.event) in
     let only = only_of k n s.event h s.after steps.0 in
     let later =
-    said k n s.after ss now
-    (subst (λ z. ArePartOf z now) (sym only.sent)
+    said k n s.after ss now (subst (λ z. ArePartOf z now) (sym only.sent)
     (part_both h.sent sent (all_handed_out (calls_of (acts_of s.event))) part)) steps.1 in
     record {
       steps = record { event = s.event; after = saying s.after now } ∷ later.steps;
@@ -195,10 +170,7 @@ lost_said {K} k n d h work y sent l w = record {
   keeper = l.keeper;
   home = l.home;
   honest = subst (λ (u : Hall K). k.is_honest (u.desks d).node.keeper) (sym w.end) l.honest;
-  found =
-      subst
-      (λ (u : Hall K). IsFoundAt k (u.desks d).node y.node.desk.stored y.node.desk.log)
-      (sym w.end) l.found;
+  found = rw w.end l.found;
   opened = l.opened;
 }
 
@@ -216,8 +188,7 @@ record Comes {K : Type 0} (k : Ghosts K) (n : ℕ) (first : Hall K) (before : Li
 steps_come : {K : Type 0} (k : Ghosts K) (n : ℕ) (first : Hall K) (before : List (HallStep K))
     (real : Hall K) (sent : List Message) (ss : List (HallStep K))
     → IsHallRun k n first before → hall_after first before ≡ saying real sent
-    → ArePartOf real.sent sent → AreSteps k n real ss
-    → Comes k n first before (hall_after real ss)
+    → ArePartOf real.sent sent → AreSteps k n real ss → Comes k n first before (hall_after real ss)
 steps_come {K} k n first before real sent ss run is part steps =
     let s = said k n real ss sent part steps in
     record {
@@ -226,23 +197,18 @@ steps_come {K} k n first before real sent ss run is part steps =
           run_more k n first before s.steps run
           (subst (λ (u : Hall K). AreSteps k n u s.steps) (sym is) s.taken);
       sent = s.after;
-      is =
-          after_both first before s.steps
-          ∙ ap (λ (u : Hall K). hall_after u s.steps) is ∙ s.end;
+      is = after_both first before s.steps ∙ ap (λ (u : Hall K). hall_after u s.steps) is ∙ s.end;
       part = s.part;
     }
 
 -- the desks where the one was opened again
-desks_without : {K : Type 0} (h : Hall K) (l : Loss K) (u : Hall K)
-    → u.desks l.desk ≡ l.again
+desks_without : {K : Type 0} (h : Hall K) (l : Loss K) (u : Hall K) → u.desks l.desk ≡ l.again
     → ((j : ℕ) → j ≢ l.desk → u.desks j ≡ (hall_after h l.steps).desks j)
     → (j : ℕ) → u.desks j ≡ (hall_without h l).desks j
-desks_without {K} h l u here others j = by (eqb j l.desk) refl
-  where
-    by : (b : Bool) → eqb j l.desk ≡ b
-        → u.desks j ≡ (if b then l.again else (hall_after h l.steps).desks j)
-    by true is = subst (λ i. u.desks i ≡ l.again) (sym (eqb-true j l.desk is)) here
-    by false is = others j (eqb-false j l.desk is)
+desks_without {K} h l u here others j =
+    by_test (λ z. u.desks j ≡ z) (eqb j l.desk) _ _
+    (λ is. subst (λ i. u.desks i ≡ l.again) (sym (eqb-true j l.desk is)) here)
+    (λ is. others j (eqb-false j l.desk is))
 
 -- one loss
 loss_comes : {K : Type 0} (k : Ghosts K) → LostWorkIsNothing k → (n : ℕ) (first : Hall K)

@@ -1,54 +1,36 @@
 -- What comes on a connection in order shows no desk of a hall that another one differs.
-use Rattle.std.proofs.Common.{◌≡◌, ◌≤◌, inl, inr, refl, sym, ap, subst, ◌∙◌, ℕ, zero, suc}
-use Rattle.std.proofs.Common.{◌+◌, ◌-◌, max, Bool, true, false, ◌&&◌, ◌==◌, if◌then◌else◌, cond}
-use Rattle.std.proofs.Common.{eqb}
-use Rattle.std.proofs.Common.{nat_lt, List, [], ◌∷◌, length, take, get_or, set, Some, None}
-use Rattle.std.proofs.Common.{Result, Ok, Err, arith}
-use Rattle.std.proofs.lemmas.Bool.{eqb-true, eqb-false}
-use Rattle.std.proofs.lemmas.Bool.Decides.{nat_tests}
-use Rattle.std.specs.List.{AllByRecursion}
-use Rattle.acceptor.specs.declared.entry.Entry.{Entry}
-use Rattle.acceptor.specs.declared.message.Body.TheVariants as body
-use Rattle.acceptor.specs.declared.message.Message.{Message}
-use Rattle.learner.proofs.Runs.{desk_from_test}
-use Rattle.learner.specs.Steps.{IsDesk, is_desk, is_heeded, is_in_range}
+use Rattle.std.proofs.Common.{◌≡◌, ◌≤◌, inl, inr, refl, sym, ap, subst, ◌∙◌, ℕ, zero, suc, ◌+◌, ◌-◌}
+use Rattle.std.proofs.Common.{Bool, true, false, ◌&&◌, ◌==◌, if◌then◌else◌, cond, nat_lt, List, []}
+use Rattle.std.proofs.Common.{◌∷◌, length, take, get_or, set, Some, None, Result, Ok, Err, arith}
+use Rattle.std.{proofs.lemmas.Bool.Decides.nat_tests, specs.List.AllByRecursion}
+use Rattle.acceptor.specs.declared.{entry.Entry.Entry, message.Message.Message}
+use Rattle.learner.{proofs.Runs.desk_from_test, specs.declared.event.DeskEvent.DeskEvent}
+use Rattle.learner.specs.Steps.{IsDesk, is_desk, is_heeded}
 use Rattle.learner.specs.Worlds.{World, new_world}
-use Rattle.learner.specs.declared.event.DeskEvent.{DeskEvent}
 use Rattle.learner.specs.declared.event.DeskEvent.TheVariants.{Submit, Start, Tick, Deliver}
-use Rattle.replica.specs.Handles.{Handles}
+use Rattle.replica.specs.{Handles.Handles, Nodes.NodeValue}
 use Rattle.replica.specs.Lengths.{length_told, nothing_told, raised, told_after}
-use Rattle.replica.specs.Nodes.{NodeValue}
 use Rattle.replica.specs.declared.roles.fault.NodeFault.{NodeFault}
-use Rattle.serving.specs.Asking.{is_ours, ours, request, strange}
-use Rattle.serving.specs.Differing.{hears, is_all, known_after, length_said}
-use Rattle.serving.specs.Differing.{other_from, shorter, what_differs}
-use Rattle.serving.specs.Making.{Call, Lead, calls_of}
-use Rattle.serving.specs.Serving.{Act}
-use Rattle.serving.specs.declared.permission.Permission.{Permission}
-use Rattle.serving.specs.declared.request.Request.{Request}
-use Rattle.store.specs.declared.home.Home.{Home}
-use Rattle.store.specs.declared.keeper.Keeper.{Ghosts}
+use Rattle.serving.specs.{Asking.is_ours, Asking.ours, Asking.request, Making.calls_of}
+use Rattle.serving.specs.{Serving.Act, Differing.what_differs, Making.Call, Making.Lead}
+use Rattle.serving.specs.Differing.{hears, is_all, known_after, length_said, other_from, shorter}
+use Rattle.serving.specs.declared.{permission.Permission.Permission, request.Request.Request}
+use Rattle.store.specs.declared.{home.Home.Home, keeper.Keeper.Ghosts}
 use Rattle.wire.specs.Ranges.{IsBody, IsCount, IsFrame}
-use Rattle.wire.specs.declared.frame.Frame.{Frame}
-use Rattle.wire.specs.declared.frame.FrameBody.{FrameBody}
-use Rattle.wire.specs.declared.frame.FrameBody.TheVariants as what
+use Rattle.wire.specs.declared.frame.{Frame.Frame, FrameBody.FrameBody}
 use Rattle.wire.specs.declared.standing.Difference.TheVariants.{Shorter}
-use Rattle.wire.specs.declared.values.Version.{Version}
-use Rattle.wire.specs.declared.values.Version.TheVariants.{One, Two, Three, Four, Five}
-use Rattle.connections.specs.Connections.{place_of}
+use Rattle.wire.specs.declared.values.Version.{Version, TheVariants.One}
 use Rattle.hall_laws.specs.Arriving.{decided_each, delivers}
-use Rattle.hall_laws.specs.Differing.{HallLengthsGrow, HallNeverDiffers}
-use Rattle.hall_laws.specs.Differing.{HallRunsAgree, IsBrought, IsGiven, IsHeardIn, WasHeard}
-use Rattle.hall_laws.specs.Differing.{WereSentInOrder, known_behind}
-use Rattle.hall_laws.specs.HallRuns.{AreSteps, CutAt, Hall, HallEvent, HallGoes, HallStep}
-use Rattle.hall_laws.specs.HallRuns.{OnlyAt, OpenedAt, SettledAt, Station, TickedAt, TurnAt}
-use Rattle.hall_laws.specs.HallRuns.{TurnWasSent, acts_of, connections, desk_of, hall_after}
-use Rattle.hall_laws.specs.HallRuns.{hall_log, home_at}
-use Rattle.hall_laws.specs.OwnMessages.{WereSentTo}
-use Rattle.hall_laws.specs.Stops.{CallsAreHappenings, real_run}
-use Rattle.hall_laws.proofs.HallDesks.{turn_does}
-use Rattle.hall_laws.proofs.HallRuns.{first_matches}
-use Rattle.hall_laws.proofs.HallSteps.{Matches, step_comes}
+use Rattle.hall_laws.specs.Differing.{HallLengthsGrow, HallNeverDiffers, HallRunsAgree, IsBrought}
+use Rattle.hall_laws.specs.Differing.{IsGiven, IsHeardIn, WasHeard, WereSentInOrder, known_behind}
+use Rattle.hall_laws.specs.HallRuns.{AreSteps, CutAt, Hall, HallEvent, HallGoes, HallStep, OnlyAt}
+use Rattle.hall_laws.specs.HallRuns.{OpenedAt, SettledAt, TickedAt, TurnAt, acts_of, desk_of}
+use Rattle.hall_laws.specs.HallRuns.{hall_after, hall_log, home_at}
+use Rattle.hall_laws.specs.{OwnMessages.WereSentTo, Stops.CallsAreHappenings, Stops.real_run}
+use Rattle.hall_laws.proofs.{HallRuns.first_matches, HallNodes.each_of}
+use Rattle.hall_laws.proofs.HallSteps.{Matches, WorksAt, step_comes, tick_works, turn_works}
+use Rattle.acceptor.specs.declared.message.Body.TheVariants as body
+use Rattle.wire.specs.declared.frame.FrameBody.TheVariants as what
 
 -- ---- tests
 
@@ -78,12 +60,8 @@ set_bounded (x ∷ xs) (suc i) (suc j) v top h k =
 raised_bounded : (p q len top : ℕ) (known : List ℕ) → 1 ≤ p → 1 ≤ q → Bounded p top known
     → (q ≡ p → len ≤ top) → Bounded p top (raised q len known)
 raised_bounded p q len top known some other h k =
-    set_bounded known (q - 1) (p - 1) (max (get_or known (q - 1) 0) len) top h
-    (λ same.
-    let told : len ≤ top = k (omega arith) in
-    let knew : get_or known (q - 1) 0 ≤ top =
-    subst (λ (i : ℕ). get_or known i 0 ≤ top) (sym same) h in
-    omega arith)
+    set_bounded _ _ _ _ _ h (λ same. let told : len ≤ top = k (omega arith) in let knew : get_or
+    known (q - 1) 0 ≤ top = subst (λ (i : ℕ). get_or known i 0 ≤ top) (sym same) h in omega arith)
 
 nothing_bounded : (p top : ℕ) → Bounded p top nothing_told
 nothing_bounded p top = go (p - 1)
@@ -100,8 +78,7 @@ nothing_bounded p top = go (p - 1)
 
 -- no message of desk p among these reports a longer log
 abbrev HeardAtMost : ℕ → ℕ → List Call → Type 0
-HeardAtMost p top calls =
-    (m : Message) → IsHeardIn m calls → m.from ≡ p → length_told m.body ≤ top
+HeardAtMost p top calls = (m : Message) → IsHeardIn m calls → m.from ≡ p → length_told m.body ≤ top
 
 event_bounded : (home : Home) (event : DeskEvent) (answer : Result (List Message) NodeFault)
     (told : List ℕ) (p top : ℕ) → 1 ≤ p → Bounded p top told
@@ -119,12 +96,8 @@ event_bounded home (Deliver m) (Ok ms) told p top some h heard =
     go false is = h
     go true is =
         let theirs : IsDesk home.desks m.from =
-        desk_from_test home.desks m.from
-        (second_of_both (m.to == home.desk) (is_desk home.desks m.from)
-        (first_of_both ((m.to == home.desk) && is_desk home.desks m.from)
-        (is_in_range home.desks m.body) is)) in
-        raised_bounded p m.from (length_told m.body) top told some theirs.0 h
-        (heard m (inl (refl, refl)))
+        desk_from_test _ _ (second_of_both _ _ (first_of_both _ _ is)) in
+        raised_bounded p _ _ _ _ some theirs.0 h (heard m (inl (refl, refl)))
 
 calls_bounded : {K : Type 0} (k : Ghosts K) (p top : ℕ) (calls : List Call) (x y : NodeValue K)
     → 1 ≤ p → Lead (Handles k) x calls y → Bounded p top x.told → HeardAtMost p top calls
@@ -135,8 +108,7 @@ calls_bounded k p top (c ∷ cs) x y some lead h heard =
     calls_bounded k p top cs lead.0 y some lead.2
     (subst (λ (told : List ℕ). Bounded p top told) (sym lead.1.told)
     (event_bounded (k.home_of x.keeper) c.event c.answer x.told p top some h
-    (λ m one. heard m (first_one m one))))
-    (λ m one. heard m (inr one))
+    (λ m one. heard m (first_one m one)))) (λ m one. heard m (inr one))
   where
     first_one : (m : Message) → IsHeardIn m (c ∷ []) → IsHeardIn m (c ∷ cs)
     first_one m (inl now) = inl now
@@ -152,49 +124,39 @@ ToldAtMost d p top h = Bounded p top (h.desks d).node.told
 at_desk_or_not : {K : Type 0} (d e p top : ℕ) (acts : List Act) (h g : Hall K)
     → OnlyAt e acts h g → ToldAtMost d p top h → (e ≡ d → ToldAtMost e p top g)
     → ToldAtMost d p top g
-at_desk_or_not {K} d e p top acts h g only told here = go (eqb d e) refl
-  where
-    go : (t : Bool) → eqb d e ≡ t → ToldAtMost d p top g
-    go true is =
-        let same : d ≡ e = eqb-true d e is in
-        subst (λ (j : ℕ). ToldAtMost j p top g) (sym same) (here (sym same))
-    go false is =
-        subst (λ (x : Station K). Bounded p top x.node.told)
-        (sym (only.others d (eqb-false d e is))) told
+at_desk_or_not d e p top acts h g only told here =
+    each_of e h.desks g.desks only.others (λ j x. j ≡ d → Bounded p top x.node.told) here d
+    (λ other same. told) refl
+
+-- the calls of a desk
+called_bounded : {K : Type 0} (k : Ghosts K) (n d p top : ℕ) (event : HallEvent) (h g : Hall K)
+    → 1 ≤ p → WorksAt k n event h g → ToldAtMost d p top h
+    → (desk_of event ≡ d → HeardAtMost p top (calls_of (acts_of event))) → ToldAtMost d p top g
+called_bounded k n d p top event h g some does told heard =
+    let e = desk_of event in
+    at_desk_or_not d e p top (acts_of event) h g does.only told (λ same.
+    calls_bounded k p top (calls_of (acts_of event)) (h.desks e).node (g.desks e).node some
+    does.lead (subst (λ (j : ℕ). ToldAtMost j p top h) (sym same) told) (heard same))
 
 step_bounded : {K : Type 0} (k : Ghosts K) (n d p top : ℕ) (event : HallEvent) (h g : Hall K)
-    (w : World)
-    → 1 ≤ p → Matches k n h w → HallGoes k n event h g → ToldAtMost d p top h
+    (w : World) → 1 ≤ p → Matches k n h w → HallGoes k n event h g → ToldAtMost d p top h
     → (desk_of event ≡ d → HeardAtMost p top (calls_of (acts_of event))) → ToldAtMost d p top g
-step_bounded {K} k n d p top (TurnAt e t acts) h g w some m step told heard =
-    at_desk_or_not d e p top acts h g step.only told
-    (λ same.
-    let own = m.here e step.ours in
-    let a = place_of (connections k (h.desks e).wire (h.desks e)) t.number in
-    let b = place_of (connections k (h.desks e).wire (g.desks e)) t.number in
-    let brought : TurnWasSent ((h.desks e).talks t.number).home h.sent t.turn =
-    subst (λ (z : Home). TurnWasSent z h.sent t.turn) (sym (own.talks t.number)) step.brings in
-    let does = turn_does t.turn a b acts h.sent step.turn.turn step.done brought in
-    calls_bounded k p top (calls_of acts) (h.desks e).node (g.desks e).node some does.lead
-    (subst (λ (j : ℕ). ToldAtMost j p top h) (sym same) told) (heard same))
+step_bounded k n d p top (TurnAt e t acts) h g w some m step told heard =
+    called_bounded k n d p top (TurnAt e t acts) h g some
+    (turn_works k n e t acts h g (m.talks e step.ours) step) told heard
 step_bounded k n d p top (TickedAt e one acts) h g w some m step told heard =
-    at_desk_or_not d e p top acts h g step.only told
-    (λ same.
-    calls_bounded k p top (calls_of acts) (h.desks e).node (g.desks e).node some step.made.calls
-    (subst (λ (j : ℕ). ToldAtMost j p top h) (sym same) told) (heard same))
+    called_bounded k n d p top (TickedAt e one acts) h g some
+    (tick_works k n e one acts h g (m.talks e step.ours) step) told heard
 step_bounded k n d p top (SettledAt e) h g w some m step told heard =
-    at_desk_or_not d e p top [] h g step.only told
-    (λ same.
+    at_desk_or_not d e p top [] h g step.only told (λ same.
     subst (λ (known : List ℕ). Bounded p top known) (sym step.settles.told)
     (subst (λ (j : ℕ). ToldAtMost j p top h) (sym same) told))
 step_bounded k n d p top (OpenedAt e) h g w some m step told heard =
-    at_desk_or_not d e p top [] h g step.only told
-    (λ same.
+    at_desk_or_not d e p top [] h g step.only told (λ same.
     subst (λ (known : List ℕ). Bounded p top known) (sym step.opened.opens.told)
     (nothing_bounded p top))
 step_bounded k n d p top (CutAt e one acts) h g w some m step told heard =
-    at_desk_or_not d e p top acts h g step.only told
-    (λ same.
+    at_desk_or_not d e p top acts h g step.only told (λ same.
     subst (λ (known : List ℕ). Bounded p top known) (sym step.opened.opens.told)
     (nothing_bounded p top))
 
@@ -210,8 +172,7 @@ steps_bounded {K} k law n d p top (suc j) h w (s ∷ ss) some m steps told heard
     let one = step_comes k law n s.event h s.after w m steps.0 in
     steps_bounded k law n d p top j s.after (real_run n w one.hs) ss some one.matches steps.1
     (step_bounded k n d p top s.event h s.after w some m steps.0 told
-    (λ here x is. heard x (now x here is)))
-    (λ x was. heard x (later x was))
+    (λ here x is. heard x (now x here is))) (λ x was. heard x (later x was))
   where
     now : (x : Message) → desk_of s.event ≡ d → IsHeardIn x (calls_of (acts_of s.event))
         → WasHeard (s ∷ take j ss) d x
@@ -232,16 +193,11 @@ steps_bounded {K} k law n d p top (suc j) h w (s ∷ ss) some m steps told heard
 -- what is asked by a frame for this desk
 asks : (home : Home) (f : Frame) (w : FrameBody) → is_ours home f ≡ true → f.what ≡ w
     → request home f ≡ ours f.from f.to w
-asks home f w here is =
-    ap (λ (t : Bool). if t then ours f.from f.to f.what else strange f.what) here
-    ∙ ap (λ (z : FrameBody). ours f.from f.to z) is
+asks home f w here is = cc
 
 some_entries : (v : Version) (n : ℕ) → IsCount v n → 1 ≤ n
 some_entries One n h = omega arith
-some_entries Two n h = h.0
-some_entries Three n h = h.0
-some_entries Four n h = h.0
-some_entries Five n h = h.0
+some_entries _ n h = h.0
 
 -- the last of the entries says how long the log is
 last_given : (from to pos : ℕ) (es : List Entry) → 1 ≤ length es
@@ -259,8 +215,7 @@ last_given from to pos (e ∷ f ∷ es) h =
 -- what a frame says of its sender's log is what one of its messages says
 frame_bounded : (home : Home) (f : Frame) (top : ℕ) → is_ours home f ≡ true → IsFrame f
     → ((m : Message) → IsGiven m (delivers (request home f)) → m.from ≡ f.from
-    → length_told m.body ≤ top)
-    → (w : FrameBody) → f.what ≡ w → length_said w ≤ top
+    → length_told m.body ≤ top) → (w : FrameBody) → f.what ≡ w → length_said w ≤ top
 frame_bounded home f top here spelled tells (what.Decided pos es) is =
     let counted : IsCount f.version (length es) =
     (subst (λ (w : FrameBody). IsBody f.version w) is spelled.body).0 in
@@ -277,27 +232,7 @@ frame_bounded home f top here spelled tells (what.Behind len) is =
     subst (λ (r : Request). IsGiven m (delivers r))
     (sym (asks home f (what.Behind len) here is)) (inl refl) in
     tells m given refl
-frame_bounded home f top here spelled tells (what.Prepare b pos) is = omega arith
-frame_bounded home f top here spelled tells (what.Promise b pos vote) is = omega arith
-frame_bounded home f top here spelled tells (what.Accept b pos e) is = omega arith
-frame_bounded home f top here spelled tells (what.Accepted b pos) is = omega arith
-frame_bounded home f top here spelled tells (what.Nack b pos promised) is = omega arith
-frame_bounded home f top here spelled tells (what.Submit e) is = omega arith
-frame_bounded home f top here spelled tells (what.Ask id) is = omega arith
-frame_bounded home f top here spelled tells (what.Await id seconds) is = omega arith
-frame_bounded home f top here spelled tells (what.Sheet event round position style) is =
-    omega arith
-frame_bounded home f top here spelled tells what.Tick is = omega arith
-frame_bounded home f top here spelled tells what.Stop is = omega arith
-frame_bounded home f top here spelled tells what.Status is = omega arith
-frame_bounded home f top here spelled tells (what.Log position) is = omega arith
-frame_bounded home f top here spelled tells (what.Taken id) is = omega arith
-frame_bounded home f top here spelled tells (what.Told id s) is = omega arith
-frame_bounded home f top here spelled tells (what.SheetText bytes) is = omega arith
-frame_bounded home f top here spelled tells (what.Refused refusal) is = omega arith
-frame_bounded home f top here spelled tells what.Fine is = omega arith
-frame_bounded home f top here spelled tells (what.Standing standing) is = omega arith
-frame_bounded home f top here spelled tells (what.Entries position len entries) is = omega arith
+frame_bounded home f top here spelled tells _ is = omega arith
 
 -- a desk of the hall says it
 heard_here : (home : Home) (may : Permission) (f : Frame) → hears home may f ≡ true
@@ -306,13 +241,11 @@ heard_here home may f is =
     let rest : (is_all may && is_desk home.desks f.from) ≡ true =
     second_of_both (is_ours home f) (is_all may && is_desk home.desks f.from) is in (
       first_of_both (is_ours home f) (is_all may && is_desk home.desks f.from) is,
-      desk_from_test home.desks f.from
-          (second_of_both (is_all may) (is_desk home.desks f.from) rest),
+      desk_from_test _ _ (second_of_both _ _ rest),
     )
 
 known_bounded : (home : Home) (may : Permission) (p top : ℕ) (known : List ℕ)
-    (before : List Frame) → 1 ≤ p → AllByRecursion (λ g. IsFrame g) before
-    → Bounded p top known
+    (before : List Frame) → 1 ≤ p → AllByRecursion (λ g. IsFrame g) before → Bounded p top known
     → ((m : Message) → IsBrought home m before → m.from ≡ p → length_told m.body ≤ top)
     → Bounded p top (known_behind home may known before)
 known_bounded home may p top known [] some spelled h heard = h
@@ -325,8 +258,7 @@ known_bounded home may p top known (f ∷ fs) some spelled h heard =
     go false is = h
     go true is =
         let said = heard_here home may f is in
-        raised_bounded p f.from (length_said f.what) top known some said.1.0 h
-        (λ same.
+        raised_bounded p f.from (length_said f.what) top known some said.1.0 h (λ same.
         frame_bounded home f top said.0 spelled.0
         (λ m given from. heard m (inl given) (from ∙ same)) f.what refl)
 
@@ -346,26 +278,7 @@ frame_alike : (f : Frame) (log : List Entry) (known : List ℕ)
     → (w : FrameBody) → f.what ≡ w → what_differs f.from w log known ≡ None
 frame_alike f log known runs lengths (what.Decided pos es) is = runs pos es is
 frame_alike f log known runs lengths (what.Behind len) is = lengths len is
-frame_alike f log known runs lengths (what.Prepare b pos) is = refl
-frame_alike f log known runs lengths (what.Promise b pos vote) is = refl
-frame_alike f log known runs lengths (what.Accept b pos e) is = refl
-frame_alike f log known runs lengths (what.Accepted b pos) is = refl
-frame_alike f log known runs lengths (what.Nack b pos promised) is = refl
-frame_alike f log known runs lengths (what.Submit e) is = refl
-frame_alike f log known runs lengths (what.Ask id) is = refl
-frame_alike f log known runs lengths (what.Await id seconds) is = refl
-frame_alike f log known runs lengths (what.Sheet event round position style) is = refl
-frame_alike f log known runs lengths what.Tick is = refl
-frame_alike f log known runs lengths what.Stop is = refl
-frame_alike f log known runs lengths what.Status is = refl
-frame_alike f log known runs lengths (what.Log position) is = refl
-frame_alike f log known runs lengths (what.Taken id) is = refl
-frame_alike f log known runs lengths (what.Told id s) is = refl
-frame_alike f log known runs lengths (what.SheetText bytes) is = refl
-frame_alike f log known runs lengths (what.Refused refusal) is = refl
-frame_alike f log known runs lengths what.Fine is = refl
-frame_alike f log known runs lengths (what.Standing standing) is = refl
-frame_alike f log known runs lengths (what.Entries position len entries) is = refl
+frame_alike f log known runs lengths _ is = refl
 
 pub hall_never_differs : {K : Type 0} (k : Ghosts K) → CallsAreHappenings k → HallRunsAgree k
     → HallLengthsGrow k → HallNeverDiffers k
@@ -414,15 +327,11 @@ hall_never_differs {K} k law agree grow n h ss i j d may before f is ours new co
         let given : IsGiven x (delivers (request home f)) =
         subst (λ (r : Request). IsGiven x (delivers r))
         (sym (asks home f (what.Behind len) here said)) (inl refl) in
-        not_shorter f.from len known
-        (known_bounded home may f.from len
+        not_shorter f.from len known (known_bounded home may f.from len
         ((hall_after h (take j ss)).desks d).node.told before theirs.0 comes.spelled
         (steps_bounded k law n d f.from len j h new_world ss theirs.0 (first_matches k n h ss is)
-        is.taken
-        (subst (λ (told : List ℕ). Bounded f.from len told) (sym new)
-        (nothing_bounded f.from len))
-        (λ m was from.
-        later m x len from refl
+        is.taken (subst (λ (told : List ℕ). Bounded f.from len told) (sym new)
+        (nothing_bounded f.from len)) (λ m was from. later m x len from refl
         (comes.after_heard m x from
         (subst (λ (z : ℕ). WasHeard (take j ss) z m) (sym named) was) given)))
         (λ m one from. later m x len from refl (comes.after_frames m x from one given)))

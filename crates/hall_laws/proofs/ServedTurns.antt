@@ -1,44 +1,30 @@
 -- What serving does for a Tick, or for the frame of a message, is a turn of the protocol.
-use Rattle.serving.specs.Serving.{decided}
-use Rattle.serving.specs.Serving.{later_fates}
-use Rattle.serving.specs.Nodes.{Fate}
-use Rattle.std.proofs.Common.{◌≡◌, refl, sym, ap, subst, ◌∙◌, ℕ, zero, suc, ◌+◌, ◌==◌, ◌&&◌}
-use Rattle.std.proofs.Common.{Bool, true, false, if◌then◌else◌, nat_lt, List, [], ◌∷◌, ◌++◌, length}
-use Rattle.std.proofs.Common.{map, Option, None, Some, Result, Ok, Err, arith}
-use Rattle.std.proofs.lemmas.Bool.Decides.{nat_tests}
-use Rattle.std.proofs.lemmas.List.{append-nil, append_assoc}
-use Rattle.acceptor.specs.declared.entry.Entry.{Entry}
-use Rattle.acceptor.specs.declared.message.Body.{Body}
-use Rattle.acceptor.specs.declared.message.Body.TheVariants.{Prepare, Promise, Accept, Accepted}
-use Rattle.acceptor.specs.declared.message.Body.TheVariants.{Nack, Behind, Decided}
-use Rattle.acceptor.specs.declared.message.Message.{Message}
+use Rattle.serving.specs.Serving.{decided, later_fates, Act, Called, Pushed, Answered, Service}
+use Rattle.serving.specs.Serving.{answered, push_all, waits, grew, what_of, framed, first_fate}
+use Rattle.serving.specs.Serving.{call, learn, learn_all, hand_out, answer_out, tell, begun, served}
+use Rattle.serving.specs.{Serving.start_if_grown, Asking.ours, Asking.request, Asking.strange}
+use Rattle.serving.specs.{Serving.take, Nodes.Fate, Nodes.Reply, Nodes.by_step, Nodes.reply}
+use Rattle.std.proofs.Common.{◌≡◌, refl, sym, ap, subst, ◌∙◌, ℕ, ◌==◌, ◌&&◌, Bool, true, false}
+use Rattle.std.proofs.Common.{if◌then◌else◌, List, [], ◌∷◌, ◌++◌, map, Option, None, Some, Result}
+use Rattle.std.proofs.Common.{Ok, Err, arith}
+use Rattle.std.proofs.lemmas.{Bool.Decides.nat_tests, List.append-nil, List.append_assoc}
+use Rattle.acceptor.specs.declared.{entry.Entry.Entry, message.Body.Body, message.Message.Message}
+use Rattle.acceptor.specs.declared.message.Body.TheVariants.{Behind, Decided}
 use Rattle.acceptor.specs.Messages.{message}
 use Rattle.answers.specs.Seen.{Seen}
-use Rattle.learner.specs.Desks.{Desk}
-use Rattle.learner.specs.Steps.{Done, IsDesk, step}
+use Rattle.learner.specs.{Steps.Done, Steps.IsDesk, Steps.step, declared.event.DeskEvent.DeskEvent}
 use Rattle.learner.specs.Worlds.{World, world_after, at_desk}
-use Rattle.learner.specs.declared.event.DeskEvent.{DeskEvent}
 use Rattle.learner.specs.declared.event.DeskEvent.TheVariants.{Start, Tick, Deliver}
 use Rattle.progress.proofs.Aims.{desk_test, put_other, put_self}
 use Rattle.progress.specs.Turns.{has_grown, started, turn}
 use Rattle.proposer.specs.declared.fault.Refusal.{Refusal}
 use Rattle.replica.specs.roles.Faults.{refused_as}
-use Rattle.serving.specs.Asking.{ours, request, strange}
-use Rattle.serving.specs.Making.{calls_of}
-use Rattle.serving.specs.Nodes.{Reply, by_step, reply}
-use Rattle.serving.specs.Serving.{Act, Called, Pushed, Answered, Service, answered, call, push_all}
-use Rattle.serving.specs.Serving.{waits}
-use Rattle.serving.specs.Serving.{grew, start_if_grown, take, learn, learn_all, hand_out}
-use Rattle.serving.specs.Serving.{answer_out}
-use Rattle.serving.specs.Serving.{tell, begun, served, what_of, framed, first_fate}
-use Rattle.serving.specs.Telling.{run_of}
-use Rattle.serving.specs.declared.request.Request.{Request}
-use Rattle.serving.specs.declared.request.Request.TheVariants.{Ticked}
-use Rattle.serving.specs.declared.request.DecidedRun.{DecidedRun}
+use Rattle.serving.specs.{Making.calls_of, Telling.run_of, declared.request.DecidedRun.DecidedRun}
+use Rattle.serving.specs.declared.request.Request.{Request, TheVariants.Ticked}
 use Rattle.store.specs.declared.home.Home.{Home}
 use Rattle.wire.specs.declared.values.Version.{Version}
-use Rattle.hall_laws.specs.Served.{all_handed_out}
-use Rattle.hall_laws.proofs.OwnMessages.{calls_both, calls_of_pushes, no_calls, handed_both}
+use Rattle.hall_laws.{specs.Served.all_handed_out, proofs.Keeping.calls_of_pushes}
+use Rattle.hall_laws.proofs.OwnMessages.{calls_both, no_calls, handed_both}
 
 -- desk d of n, in a hall of this number
 abbrev pub home_of : ℕ → ℕ → ℕ → Home
@@ -63,11 +49,11 @@ mirrors_call : (hall n d : ℕ) (W w : World) (event : DeskEvent) (s : Service)
     → Mirrors d W (at_desk n w d event) (call (home_of hall n d) event s)
 unfolding call
 mirrors_call hall n d W w event s ours h =
+    let same : reply home s.seen event (first_fate s.fates) ≡ by_step home event here
+    (step n d (w.desks d) event) = ap (λ z. reply home z event (first_fate s.fates)) h.seen ∙ ap
+    (λ z. reply home here event (first_fate z)) h.fates in
     subst (λ (r : Reply). Mirrors d W (at_desk n w d event) (answered s event r)) (sym same)
-    (subst (λ (t : Bool). Mirrors d W
-    (if t then world_after w d (step n d (w.desks d) event) else w)
-    (answered s event (by_step home event here (step n d (w.desks d) event))))
-    (sym (desk_test n d ours)) (go (step n d (w.desks d) event)))
+    (rw (desk_test n d ours) (go (step n d (w.desks d) event)))
   where
     home : Home
     home = home_of hall n d
@@ -75,35 +61,25 @@ mirrors_call hall n d W w event s ours h =
     here : Seen
     here = up_at w d s.seen.told
 
-    same : reply home s.seen event (first_fate s.fates)
-        ≡ by_step home event here (step n d (w.desks d) event)
-    same =
-        ap (λ z. reply home z event (first_fate s.fates)) h.seen
-        ∙ ap (λ z. reply home here event (first_fate z)) h.fates
-
-    later : (fs : List Fate) → fs ≡ []
-        → later_fates fs ≡ []
+    later : (fs : List Fate) → fs ≡ [] → later_fates fs ≡ []
     later fs is = ap (λ z. later_fates z) is
 
     go : (r : Result Done Refusal)
         → Mirrors d W (world_after w d r) (answered s event (by_step home event here r))
     go (Ok r) =
         record {
-          seen = ap (λ (x : Desk). record {
-            desk = x;
-            is_down = false;
-            told = (by_step home event here (Ok r)).seen.told;
-          }) (sym (put_self w.desks d r.desk));
+          seen = cc (put_self w.desks d r.desk);
           fates = later s.fates h.fates;
           others = λ j ne. put_other w.desks d r.desk j ne ∙ h.others j ne;
           sent =
-              ap (λ z. z ++ r.messages) h.sent
-              ∙ append_assoc W.sent (all_handed_out (calls_of s.done)) r.messages
-              ∙ ap (λ z. W.sent ++ (all_handed_out (calls_of s.done) ++ z))
-              (sym (append-nil r.messages))
-              ∙ ap (λ z. W.sent ++ z) (sym
-              (ap (λ z. all_handed_out z) (calls_both s.done (Called event (Ok r.messages) ∷ []))
-              ∙ handed_both (calls_of s.done) (calls_of (Called event (Ok r.messages) ∷ []))));
+              cc (
+                append_assoc W.sent (all_handed_out (calls_of s.done)) r.messages,
+                append-nil
+                    r.messages,
+                calls_both s.done (Called event (Ok r.messages) ∷ []),
+                handed_both
+                    (calls_of s.done) (calls_of (Called event (Ok r.messages) ∷ [])),
+              );
         }
     go (Err why) =
         record {
@@ -111,13 +87,13 @@ mirrors_call hall n d W w event s ours h =
           fates = later s.fates h.fates;
           others = h.others;
           sent =
-              h.sent
-              ∙ ap (λ z. W.sent ++ z) (sym
-              (ap (λ z. all_handed_out z)
-              (calls_both s.done (Called event (Err (refused_as why)) ∷ []))
-              ∙ handed_both (calls_of s.done)
-              (calls_of (Called event (Err (refused_as why)) ∷ []))
-              ∙ append-nil (all_handed_out (calls_of s.done))));
+              cc (
+                calls_both s.done (Called event (Err (refused_as why)) ∷ []),
+                handed_both
+                    (calls_of s.done) (calls_of (Called event (Err (refused_as why)) ∷ [])),
+                append-nil
+                    (all_handed_out (calls_of s.done)),
+              );
         }
 
 -- ---- what is pushed
@@ -149,21 +125,15 @@ mirrors_start : (hall n d before : ℕ) (W w : World) (s : Service) → IsDesk n
     → Mirrors d W (started n d before w) (start_if_grown (home_of hall n d) before s)
 unfolding start_if_grown
 mirrors_start hall n d before W w s ours h =
-    subst (λ (t : Bool). Mirrors d W (started n d before w)
-    (if t then push_all (call home Start s) else s)) (sym same)
-    (go (has_grown before (w.desks d)))
+    let same : grew before s.seen ≡ has_grown before (w.desks d) = ap (λ z. grew before z) h.seen in
+    rw same (go (has_grown before (w.desks d)))
   where
     home : Home
     home = home_of hall n d
 
-    same : grew before s.seen ≡ has_grown before (w.desks d)
-    same = ap (λ z. grew before z) h.seen
-
     go : (t : Bool) → Mirrors d W (if t then at_desk n w d Start else w)
         (if t then push_all (call home Start s) else s)
-    go true =
-        mirrors_push d W (at_desk n w d Start) (call home Start s)
-        (mirrors_call hall n d W w Start s ours h)
+    go true = mirrors_push d W _ _ (mirrors_call _ n d W w _ s ours h)
     go false = h
 
 first_mirrors : (d : ℕ) (w : World) (told : List ℕ) → Mirrors d w w (begun (up_at w d told) [])
@@ -183,32 +153,22 @@ take_turn : (hall n d : ℕ) (w : World) (told : List ℕ) (event : DeskEvent) �
     → Mirrors d w (turn n w d event) (take (home_of hall n d) event (begun (up_at w d told) []))
 unfolding take
 take_turn hall n d w told event ours =
-    mirrors_start hall n d (length (w.desks d).log) w (at_desk n w d event)
-    (push_all (call home event first)) ours
-    (mirrors_push d w (at_desk n w d event) (call home event first)
-    (mirrors_call hall n d w w event first ours (first_mirrors d w told)))
-  where
-    home : Home
-    home = home_of hall n d
-
-    first : Service
-    first = begun (up_at w d told) []
+    let home : Home = home_of hall n d in
+    let first : Service = begun (up_at w d told) [] in
+    mirrors_start _ n d _ w _ _ ours (mirrors_push d w _ _
+    (mirrors_call _ n d w w _ _ ours (first_mirrors d w _)))
 
 -- a Tick
 pub tick_turn : (hall n d : ℕ) (w : World) (told : List ℕ) → IsDesk n d
     → IsServedAs d w (turn n w d Tick) (served (home_of hall n d) (up_at w d told) [] Ticked)
-tick_turn hall n d w told ours =
-    served_as d w (turn n w d Tick) (take (home_of hall n d) Tick (begun (up_at w d told) []))
-    (take_turn hall n d w told Tick ours)
+tick_turn hall n d w told ours = served_as d w _ _ (take_turn _ n d w _ _ ours)
 
 -- ---- a message
 
 tell_turn : (hall n d : ℕ) (w : World) (told : List ℕ) (m : Message) → IsDesk n d
     → Mirrors d w (turn n w d (Deliver m)) (tell (home_of hall n d) m (begun (up_at w d told) []))
 unfolding tell answer_out
-tell_turn hall n d w told m ours =
-    mirrors_start hall n d (length (w.desks d).log) w (at_desk n w d (Deliver m))
-    (hand_out (run_of d called.waiting) called) ours (go (run_of d called.waiting))
+tell_turn hall n d w told m ours = mirrors_start _ n d _ w _ _ ours (go (run_of d called.waiting))
   where
     home : Home
     home = home_of hall n d
@@ -228,8 +188,7 @@ tell_turn hall n d w told m ours =
         mirrors_acts d w (at_desk n w d (Deliver m)) called (Answered run ∷ []) refl kept
 
 learns_one : (home : Home) (from to pos : ℕ) (e : Entry) (s : Service)
-    → call home (decided from to pos e) (waits [] s)
-    ≡ learn home from to pos (e ∷ []) s
+    → call home (decided from to pos e) (waits [] s) ≡ learn home from to pos (e ∷ []) s
 unfolding learn
 learns_one home from to pos e s = go (called home).seen.is_down
   where
@@ -246,21 +205,12 @@ learn_turn : (hall n d : ℕ) (w : World) (told : List ℕ) (from pos : ℕ) (e 
     (record { from = from; to = d; pos = pos; entries = e ∷ [] }) (begun (up_at w d told) []))
 unfolding learn_all
 learn_turn hall n d w told from pos e ours =
-    mirrors_start hall n d (length (w.desks d).log) w (at_desk n w d event)
-    (push_all (learn home from d pos (e ∷ []) first)) ours
-    (mirrors_push d w (at_desk n w d event) (learn home from d pos (e ∷ []) first)
-    (subst (λ (s : Service). Mirrors d w (at_desk n w d event) s)
-    (learns_one home from d pos e first)
-    (mirrors_call hall n d w w event first ours (first_mirrors d w told))))
-  where
-    home : Home
-    home = home_of hall n d
-
-    first : Service
-    first = begun (up_at w d told) []
-
-    event : DeskEvent
-    event = Deliver (message from d (Decided pos e))
+    let home : Home = home_of hall n d in
+    let first : Service = begun (up_at w d told) [] in
+    let event : DeskEvent = Deliver (message from d (Decided pos e)) in
+    mirrors_start _ n d _ w _ _ ours (mirrors_push d w _ _
+    (subst (λ (s : Service). Mirrors d w (at_desk n w d event) s) (learns_one _ _ d _ e _)
+    (mirrors_call _ n d w w _ _ ours (first_mirrors d w _))))
 
 asked_by : (a b : Bool) (x y r : Request) → a ≡ true → b ≡ true → x ≡ r
     → (if a && b then x else y) ≡ r
@@ -280,18 +230,13 @@ message_asked hall n d version from body =
 by_body : (hall n d : ℕ) (w : World) (told : List ℕ) (from : ℕ) (body : Body) → IsDesk n d
     → Mirrors d w (turn n w d (Deliver (message from d body)))
     (served (home_of hall n d) (up_at w d told) [] (ours from d (what_of body)))
-by_body hall n d w told from (Prepare b pos) is = take_turn hall n d w told _ is
-by_body hall n d w told from (Promise b pos vote) is = take_turn hall n d w told _ is
-by_body hall n d w told from (Accept b pos e) is = take_turn hall n d w told _ is
-by_body hall n d w told from (Accepted b pos) is = take_turn hall n d w told _ is
-by_body hall n d w told from (Nack b pos promised) is = take_turn hall n d w told _ is
 by_body hall n d w told from (Behind len) is = tell_turn hall n d w told _ is
 by_body hall n d w told from (Decided pos e) is = learn_turn hall n d w told from pos e is
+by_body hall n d w told from _ is = take_turn hall n d w told _ is
 
 -- the frame of a message
 pub message_turn : (hall n d : ℕ) (w : World) (told : List ℕ) (version : Version) (m : Message)
-    → m.to ≡ d → IsDesk n d
-    → IsServedAs d w (turn n w d (Deliver m))
+    → m.to ≡ d → IsDesk n d → IsServedAs d w (turn n w d (Deliver m))
     (served (home_of hall n d) (up_at w d told) []
     (request (home_of hall n d) (framed version hall m)))
 message_turn hall n d w told version m to is =

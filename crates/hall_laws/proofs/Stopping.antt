@@ -1,33 +1,26 @@
 -- Desks that stop make a run of the world.
 use Rattle.std.proofs.Common.{◌≡◌, ◌⊎◌, inl, inr, ℕ, zero, suc, Bool, true, false, if◌then◌else◌}
-use Rattle.std.proofs.Common.{List, [], ◌∷◌, ◌++◌, Option, Some, None, Result, Ok, Err, IsOk}
-use Rattle.std.proofs.Common.{slice_get, take, map, length, refl, sym, ap, subst, ◌∙◌}
+use Rattle.std.proofs.Common.{List, [], ◌∷◌, ◌++◌, Option, Some, None, Result, Ok, Err, slice_get}
+use Rattle.std.proofs.Common.{take, map, length, refl, sym, ap, subst, ◌∙◌}
 use Rattle.std.specs.Option.{option_map}
-use Rattle.std.proofs.lemmas.List.{take-map}
-use Rattle.std.proofs.lemmas.Option.{slice_get-map}
-use Rattle.acceptor.specs.declared.entry.Entry.{Entry}
-use Rattle.acceptor.specs.declared.message.Message.{Message}
-use Rattle.proposer.specs.declared.fault.Refusal.{Refusal}
-use Rattle.learner.specs.declared.event.DeskEvent.{DeskEvent}
-use Rattle.learner.specs.declared.event.DeskEvent.TheVariants.{Submit, Start, Tick, Deliver}
-use Rattle.learner.specs.declared.event.WorldEvent.{WorldEvent}
-use Rattle.learner.specs.declared.event.WorldEvent.TheVariants.{Submit as SubmitAt}
+use Rattle.std.proofs.lemmas.{List.take-map, Option.slice_get-map}
+use Rattle.acceptor.specs.declared.{entry.Entry.Entry, message.Message.Message}
+use Rattle.proposer.specs.{declared.fault.Refusal.Refusal, Plans.Passing, Proposing.submit}
+use Rattle.learner.specs.{declared.event.DeskEvent.DeskEvent, Desks.Desk, Submitted.IsTaken}
+use Rattle.learner.specs.{Desks.passing, declared.event.WorldEvent.TheVariants.Submit as SubmitAt}
+use Rattle.learner.{specs.Desks.restarted, proofs.Runs.run_append, specs.Worlds.world_after}
+use Rattle.learner.specs.declared.event.WorldEvent.{TheVariants.Restart as RestartAt, WorldEvent}
 use Rattle.learner.specs.declared.event.WorldEvent.TheVariants.{Start as StartAt, Tick as TickAt}
 use Rattle.learner.specs.declared.event.WorldEvent.TheVariants.{Deliver as DeliverNth}
-use Rattle.learner.specs.declared.event.WorldEvent.TheVariants.{Restart as RestartAt}
-use Rattle.proposer.specs.Plans.{Passing}
-use Rattle.proposer.specs.Proposing.{submit}
-use Rattle.learner.specs.Desks.{Desk, passing, restarted}
-use Rattle.learner.specs.Steps.{Done, is_desk, passed, step}
-use Rattle.learner.specs.Laws.{IsPrefix, LogsAgree, LogsAreSubmitted}
-use Rattle.learner.specs.Submitted.{IsTaken}
-use Rattle.learner.specs.Worlds.{World, new_world, put, world_after, at_desk, nth_sent, delivered}
-use Rattle.learner.specs.Worlds.{restart_at, happens, run, log_of}
+use Rattle.learner.specs.{Laws.IsPrefix, Laws.LogsAgree, Laws.LogsAreSubmitted, Worlds.nth_sent}
+use Rattle.learner.specs.declared.event.DeskEvent.TheVariants.{Submit, Start, Tick, Deliver}
+use Rattle.learner.specs.{Steps.Done, Steps.is_desk, Steps.passed, Steps.step, Worlds.delivered}
+use Rattle.learner.specs.Worlds.{restart_at, happens, run, log_of, World, new_world, put, at_desk}
 use Rattle.hall_laws.specs.Stops.{Happening, Answered, Stopped, place, goes_on, real_run, IsAmong}
 use Rattle.hall_laws.specs.Stops.{Follows, IsSameEvent, event_of, group, events_of, KeepsStep}
-use Rattle.hall_laws.specs.Stops.{StopsMakeARun, real_log, RealLogsAgree, WasSubmitted}
-use Rattle.hall_laws.specs.Stops.{RealEntriesAreSubmitted}
-use Rattle.hall_laws.proofs.Putting.{put_here, put_put}
+use Rattle.hall_laws.specs.Stops.{StopsMakeARun, real_log, RealLogsAgree, RealEntriesAreSubmitted}
+use Rattle.hall_laws.{specs.Stops.WasSubmitted, proofs.Calls.put_put}
+use Rattle.progress.proofs.Aims.{put_self}
 
 abbrev world_of : (ℕ → Desk) → List Message → World
 world_of desks sent = record { desks = desks; sent = sent }
@@ -60,15 +53,19 @@ within_more a b more h m k = go (among_either m a more k)
     go (inl l) = among_left m b more (h m l)
     go (inr r) = among_right m b more r
 
-get_among : (m : Message) (a : List Message) (k : ℕ) → slice_get a k ≡ Some m → IsAmong m a
+pub get_among : (m : Message) (a : List Message) (k : ℕ) → slice_get a k ≡ Some m → IsAmong m a
 get_among m [] k e = absurd cc
 get_among m (x ∷ xs) zero e = let same : x ≡ m = cc in inl same
 get_among m (x ∷ xs) (suc k) e = inr (get_among m xs k e)
 
-among_get : (m : Message) (b : List Message) → IsAmong m b → (k : ℕ) × (slice_get b k ≡ Some m)
+pub among_get : (m : Message) (b : List Message) → IsAmong m b → (k : ℕ) × (slice_get b k ≡ Some m)
 among_get m [] h = absurd h
 among_get m (x ∷ xs) (inl e) = (zero, ap (λ (y : Message). Some y) e)
 among_get m (x ∷ xs) (inr h) = let there = among_get m xs h in (suc there.0, there.1)
+
+pub nth_among : (a : List Message) (k : ℕ) (m : Message) → nth_sent a k ≡ Some m → IsAmong m a
+nth_among a zero m e = absurd (let none : None ≡ Some m = e in cc)
+nth_among a (suc k) m e = get_among m a k e
 
 desks_of : {real w : World} → Follows real w → real.desks ≡ w.desks
 desks_of f = f.desks
@@ -114,30 +111,19 @@ matches n desks a b (DeliverNth (suc k)) h = go (slice_get a k) refl
     there : (m : Message) → slice_get a k ≡ Some m → Matches n desks a b (DeliverNth (suc k))
     there m e =
         let found = among_get m b (h m (get_among m a k e)) in
-        let right : delivered n (world_of desks b) (slice_get b found.0)
-        ≡ delivered n (world_of desks b) (Some m) =
-        ap (λ (o : Option Message). delivered n (world_of desks b) o) found.1 in
-        let left : delivered n (world_of desks a) (slice_get a k)
-        ≡ delivered n (world_of desks a) (Some m) =
+        let right = ap (λ (o : Option Message). delivered n (world_of desks b) o) found.1 in
+        let left =
         ap (λ (o : Option Message). delivered n (world_of desks a) o) e in (
           DeliverNth (suc found.0),
           (suc found.0, refl, found.1 ∙ sym e),
           subst (λ (w : World). Follows w (delivered n (world_of desks b) (slice_get b found.0)))
-              (sym left)
-              (subst (λ (w : World). Follows (delivered n (world_of desks a) (Some m)) w)
-              (sym right) (at_follows n m.to (Deliver m) desks a b h)),
+              (sym left) (rw right (at_follows n m.to (Deliver m) desks a b h)),
         )
 
     none : slice_get a k ≡ None → Matches n desks a b (DeliverNth (suc k))
     none e =
-        let left : delivered n (world_of desks a) (slice_get a k)
-        ≡ delivered n (world_of desks a) None =
-        ap (λ (o : Option Message). delivered n (world_of desks a) o) e in (
-          DeliverNth zero,
-          (zero, refl, sym e),
-          subst (λ (w : World). Follows w (world_of desks b)) (sym left)
-              (record { desks = refl; sent = h }),
-        )
+        let left = ap (λ (o : Option Message). delivered n (world_of desks a) o) e in
+        (DeliverNth zero, (zero, refl, sym e), rw left (record { desks = refl; sent = h }))
 
     go : (o : Option Message) → slice_get a k ≡ o → Matches n desks a b (DeliverNth (suc k))
     go (Some m) e = there m e
@@ -185,11 +171,6 @@ restart_desks n d r w e = go (is_desk n d)
         ≡ (if t then world_of (put w.desks d (restarted (w.desks d))) w.sent else w).desks
     go true = ap (λ (ds : ℕ → Desk). put ds d (restarted (ds d))) e
     go false = e
-
-run_more : (n : ℕ) (w : World) (xs ys : List WorldEvent)
-    → run n w (xs ++ ys) ≡ run n (run n w xs) ys
-run_more n w [] ys = refl
-run_more n w (x ∷ xs) ys = run_more n (happens n w x) xs ys
 
 pub one_more : (n : ℕ) (real w : World) (h : Happening) → Follows real w → Continues n real w h
 one_more n real w (Answered e) f = answered
@@ -277,7 +258,7 @@ keeps_moments n real w (h ∷ hs) (e ∷ there) k (suc i) =
     let same : run n w (take (past first later.0) (first ++ rest))
     ≡ run n (run n w first) (take later.0 rest) =
     ap (λ (es : List WorldEvent). run n w es) (take_past first rest later.0)
-    ∙ run_more n w first (take later.0 rest) in (
+    ∙ run_append n w first (take later.0 rest) in (
       past first later.0,
       subst (λ (v : World). Follows (real_run n (goes_on n real h) (take i hs)) v) (sym same)
           later.1,
@@ -292,7 +273,7 @@ follows_at_end n real w [] (e ∷ there) k = absurd k
 follows_at_end n real w (h ∷ hs) [] k = absurd k
 follows_at_end n real w (h ∷ hs) (e ∷ there) k =
     subst (λ (v : World). Follows (real_run n (goes_on n real h) hs) v)
-    (sym (run_more n w (group real h e) (events_of n (goes_on n real h) hs there)))
+    (sym (run_append n w (group real h e) (events_of n (goes_on n real h) hs there)))
     (follows_at_end n (goes_on n real h) (run n w (group real h e)) hs there k.2)
 
 pub stops_make_a_run : StopsMakeARun
@@ -311,33 +292,22 @@ real_logs_agree agree n hs i j d k =
     let there : real_log n hs j k ≡ log_of n (take two.0 events) k =
     ap (λ (ds : ℕ → Desk). (ds k).log) (desks_of two.1) in
     subst (λ (xs : List Entry). IsPrefix xs (real_log n hs j k) ⊎ IsPrefix (real_log n hs j k) xs)
-    (sym here)
-    (subst
-    (λ (ys : List Entry). IsPrefix (log_of n (take one.0 events) d) ys
-    ⊎ IsPrefix ys (log_of n (take one.0 events) d))
-    (sym there) (agree n events one.0 two.0 d k))
+    (sym here) (subst (λ (ys : List Entry). IsPrefix (log_of n (take one.0 events) d) ys
+    ⊎ IsPrefix ys (log_of n (take one.0 events) d)) (sym there) (agree n events one.0 two.0 d k))
 
 -- ---- what was submitted there was submitted here
 
 still_taken : (n d : ℕ) (e : Entry) (real w : World) → Follows real w → IsTaken n w d e
     → IsTaken n real d e
-still_taken n d e real w f taken = record {
-  ours = taken.ours;
-  taken =
-      subst (λ (desks : ℕ → Desk). IsOk (step n d (desks d) (Submit e))) (sym f.desks) taken.taken;
-}
+still_taken n d e real w f taken = record { ours = taken.ours; taken = rw f.desks taken.taken }
 
 -- the event of the same submission
 same_submission : (a b : List Message) (here : WorldEvent) (d : ℕ) (e : Entry)
     → IsSameEvent a b here (SubmitAt d e) → here ≡ SubmitAt d e
 same_submission a b (SubmitAt d' e') d e same = sym same
-same_submission a b (StartAt d') d e same =
-    absurd (let bad : SubmitAt d e ≡ StartAt d' = same in cc)
-same_submission a b (TickAt d') d e same = absurd (let bad : SubmitAt d e ≡ TickAt d' = same in cc)
 same_submission a b (DeliverNth k) d e same =
     absurd (let bad : SubmitAt d e ≡ DeliverNth same.0 = same.1 in cc)
-same_submission a b (RestartAt d') d e same =
-    absurd (let bad : SubmitAt d e ≡ RestartAt d' = same in cc)
+same_submission a b _ d e same = absurd cc
 
 -- the entry is submitted by one of these happenings, which begin here
 record Submits (n : ℕ) (real : World) (hs : List Happening) (e : Entry) : Type 0 where
@@ -390,8 +360,7 @@ submitted_there n real w (Stopped true e' ∷ hs) (t ∷ there) k (suc (suc at))
 submitted_there n real w (Stopped false e' ∷ hs) (t ∷ there) k zero d e is taken =
     absurd (let bad : Some (RestartAt (place real e')) ≡ Some (SubmitAt d e) = is in cc)
 submitted_there n real w (Stopped false e' ∷ hs) (t ∷ there) k (suc at) d e is taken =
-    later n real (Stopped false e') hs e
-    (submitted_there n (goes_on n real (Stopped false e'))
+    later n real (Stopped false e') hs e (submitted_there n (goes_on n real (Stopped false e'))
     (run n w (group real (Stopped false e') t)) hs there k.2 at d e is taken)
 
 -- what is in a log was submitted, by a call that was answered or in which the desk stopped later
@@ -411,13 +380,8 @@ submitted_by submitted n hs d pos e is =
 
 -- the happening, where a stopped submission has nothing in the store
 abbrev settled : Happening → Happening
-settled (Answered e) = Answered e
-settled (Stopped false e) = Stopped false e
 settled (Stopped true (SubmitAt d e)) = Stopped false (SubmitAt d e)
-settled (Stopped true (StartAt d)) = Stopped true (StartAt d)
-settled (Stopped true (TickAt d)) = Stopped true (TickAt d)
-settled (Stopped true (DeliverNth k)) = Stopped true (DeliverNth k)
-settled (Stopped true (RestartAt d)) = Stopped true (RestartAt d)
+settled h = h
 
 -- a queue is lost, and nothing else of a submission is there to be lost
 submission_is_lost : (n d : ℕ) (e : Entry) (w : World)
@@ -437,53 +401,34 @@ submission_is_lost n d e w =
 
     go : (t : Bool) (p : Result Passing Refusal)
         → restart t w ≡ record { desks = (restart t (after t p)).desks; sent = w.sent }
-    go true (Ok p) = λ i. record { desks = lost i; sent = w.sent }
-      where
-        y : Desk
-        y = record { stored = x.stored; log = x.log; role = p.role; queue = p.queue; seen = p.seen }
-
-        lost : put w.desks d (restarted x)
-            ≡ put (put w.desks d y) d (restarted ((put w.desks d y) d))
-        lost =
-            sym (put_put w.desks d y (restarted x))
-            ∙ ap (λ (z : Desk). put (put w.desks d y) d (restarted z)) (sym (put_here w.desks d y))
+    go true (Ok p) =
+        let y : Desk =
+        record { stored = x.stored; log = x.log; role = p.role; queue = p.queue; seen = p.seen } in
+        let lost : put w.desks d (restarted x) ≡ put (put w.desks d y) d
+        (restarted ((put w.desks d y) d)) = sym (put_put w.desks d y (restarted x)) ∙ ap
+        (λ (z : Desk). put (put w.desks d y) d (restarted z)) (sym (put_self w.desks d y)) in
+        λ i. record { desks = lost i; sent = w.sent }
     go true (Err why) = refl
     go false (Ok p) = refl
     go false (Err why) = refl
 
 settled_goes_on : (n : ℕ) (w : World) (h : Happening) → goes_on n w (settled h) ≡ goes_on n w h
-settled_goes_on n w (Answered e) = refl
-settled_goes_on n w (Stopped false e) = refl
 settled_goes_on n w (Stopped true (SubmitAt d e)) = submission_is_lost n d e w
-settled_goes_on n w (Stopped true (StartAt d)) = refl
-settled_goes_on n w (Stopped true (TickAt d)) = refl
-settled_goes_on n w (Stopped true (DeliverNth k)) = refl
-settled_goes_on n w (Stopped true (RestartAt d)) = refl
+settled_goes_on n w _ = refl
 
 settled_run : (n : ℕ) (w : World) (hs : List Happening)
     → real_run n w (map settled hs) ≡ real_run n w hs
 settled_run n w [] = refl
-settled_run n w (h ∷ hs) =
-    ap (λ (v : World). real_run n v (map settled hs)) (settled_goes_on n w h)
-    ∙ settled_run n (goes_on n w h) hs
+settled_run n w (h ∷ hs) = cc (settled_goes_on n w h, settled_run n (goes_on n w h) hs)
 
 settled_answer : (h : Happening) (e : WorldEvent) → settled h ≡ Answered e → h ≡ Answered e
 settled_answer (Answered f) e is = is
-settled_answer (Stopped false f) e is = absurd cc
 settled_answer (Stopped true (SubmitAt d f)) e is = absurd cc
-settled_answer (Stopped true (StartAt d)) e is = absurd cc
-settled_answer (Stopped true (TickAt d)) e is = absurd cc
-settled_answer (Stopped true (DeliverNth k)) e is = absurd cc
-settled_answer (Stopped true (RestartAt d)) e is = absurd cc
+settled_answer _ e is = absurd cc
 
 settled_stop : (h : Happening) (d : ℕ) (e : Entry) → settled h ≡ Stopped true (SubmitAt d e) → ⊥
-settled_stop (Answered f) d e is = absurd cc
-settled_stop (Stopped false f) d e is = absurd cc
 settled_stop (Stopped true (SubmitAt k f)) d e is = absurd cc
-settled_stop (Stopped true (StartAt k)) d e is = absurd cc
-settled_stop (Stopped true (TickAt k)) d e is = absurd cc
-settled_stop (Stopped true (DeliverNth k)) d e is = absurd cc
-settled_stop (Stopped true (RestartAt k)) d e is = absurd cc
+settled_stop _ d e is = absurd cc
 
 -- so what a list of happenings submits is submitted by a call that was answered
 was_submitted : (n : ℕ) (hs : List Happening) (e : Entry)
@@ -495,8 +440,7 @@ was_submitted n hs e s = record {
   taken =
       subst (λ (w : World). IsTaken n w s.desk e)
       (ap (λ (gs : List Happening). real_run n new_world gs) (take-map settled s.at hs)
-      ∙ settled_run n new_world (take s.at hs))
-      s.taken;
+      ∙ settled_run n new_world (take s.at hs)) s.taken;
 }
   where
     there : slice_get (map settled hs) s.at ≡ option_map settled (slice_get hs s.at)
@@ -525,6 +469,5 @@ pub real_entries_are_submitted : LogsAreSubmitted → RealEntriesAreSubmitted
 real_entries_are_submitted submitted n hs i d pos e is =
     let same : (real_run n new_world (map settled (take i hs))) ≡ real_run n new_world (take i hs) =
     settled_run n new_world (take i hs) in
-    was_submitted n (take i hs) e
-    (submitted_by submitted n (map settled (take i hs)) d pos e
+    was_submitted n (take i hs) e (submitted_by submitted n (map settled (take i hs)) d pos e
     (subst (λ (w : World). slice_get (w.desks d).log pos ≡ Some e) (sym same) is))

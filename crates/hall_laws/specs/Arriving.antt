@@ -1,24 +1,14 @@
 -- What a desk is given of a frame that another desk of its hall has pushed (the project's own).
 use Rattle.std.specs.Prelude.{◌≡◌, ℕ, ◌+◌, List, [], ◌∷◌, ◌++◌}
-use Rattle.acceptor.specs.declared.entry.Entry.{Entry}
-use Rattle.acceptor.specs.declared.message.Message.{Message}
-use Rattle.learner.specs.declared.event.DeskEvent.{DeskEvent}
-use Rattle.learner.specs.declared.event.DeskEvent.TheVariants.{Deliver}
+use Rattle.acceptor.specs.declared.{entry.Entry.Entry, message.Message.Message}
+use Rattle.learner.specs.declared.event.DeskEvent.{DeskEvent, TheVariants.Deliver}
 use Rattle.store.specs.declared.home.Home.{Home}
-use Rattle.wire.specs.Laws.{AreBytes}
-use Rattle.wire.specs.Ranges.{IsFrame}
-use Rattle.wire.specs.Stream.{front, Begins}
-use Rattle.wire.specs.declared.frame.Frame.{Frame}
-use Rattle.wire.specs.declared.values.Version.{Version}
-use Rattle.serving.specs.Asking.{request}
-use Rattle.serving.specs.Serving.{framed, pushed, decided}
+use Rattle.wire.specs.{Laws.AreBytes, Ranges.IsFrame, Stream.front, Stream.Begins}
+use Rattle.wire.specs.declared.{frame.Frame.Frame, values.Version.Version}
+use Rattle.serving.specs.{Asking.request, Serving.framed, Serving.pushed, Serving.decided}
 use Rattle.serving.specs.Telling.{run_frame, run_pushed, entries_said}
-use Rattle.serving.specs.declared.request.Request.{Request}
-use Rattle.serving.specs.declared.request.Request.TheVariants.{Heard, Lagging, Learned, Entered}
-use Rattle.serving.specs.declared.request.Request.TheVariants.{Asked, Printed, Ticked, Stopped}
-use Rattle.serving.specs.declared.request.Request.TheVariants.{Inspected, Copied, Strange, Ignored}
-use Rattle.serving.specs.declared.request.Request.TheVariants.{Denied, Withheld}
-use Rattle.serving.specs.declared.request.DecidedRun.{DecidedRun}
+use Rattle.serving.specs.declared.request.{Request.Request, DecidedRun.DecidedRun}
+use Rattle.serving.specs.declared.request.Request.TheVariants.{Heard, Lagging, Learned}
 
 -- a Decided for each of the entries, the first one at a position and the others after it
 abbrev pub decided_each : ℕ → ℕ → ℕ → List Entry → List DeskEvent
@@ -30,17 +20,7 @@ abbrev pub delivers : Request → List DeskEvent
 delivers (Heard m) = Deliver m ∷ []
 delivers (Lagging m) = Deliver m ∷ []
 delivers (Learned run) = decided_each run.from run.to run.pos run.entries
-delivers (Entered e) = []
-delivers (Asked id) = []
-delivers (Printed event round position style) = []
-delivers Ticked = []
-delivers Stopped = []
-delivers (Inspected differs) = []
-delivers (Copied position) = []
-delivers Strange = []
-delivers Ignored = []
-delivers Denied = []
-delivers Withheld = []
+delivers _ = []
 
 -- Bytes that a desk was pushed, and those that came after them on the connection: the stream begins
 -- with this one frame, the later bytes are left, and the frame delivers these messages.

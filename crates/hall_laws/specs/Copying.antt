@@ -2,16 +2,14 @@
 -- project's own).
 use Rattle.std.specs.Prelude.{ℕ, ◌≡◌, ◌≤◌, ◌⊎◌, List, [], ◌∷◌, ◌++◌, length, take, Some, slice_get}
 use Rattle.acceptor.specs.declared.entry.Entry.{Entry}
-use Rattle.learner.specs.Laws.{IsPrefix}
-use Rattle.learner.specs.Steps.{IsDesk}
-use Rattle.serving.specs.Answering.{entries_from}
-use Rattle.serving.specs.Asking.{request}
+use Rattle.learner.specs.{Laws.IsPrefix, Steps.IsDesk}
+use Rattle.serving.specs.{Answering.entries_from, Asking.request}
 use Rattle.serving.specs.Connection.{Begun, answer_frame, serve_frame}
 use Rattle.serving.specs.declared.request.Request.TheVariants.{Copied}
 use Rattle.store.specs.declared.keeper.Keeper.{Ghosts}
-use Rattle.wire.specs.declared.frame.FrameBody.TheVariants as what
 use Rattle.hall_laws.specs.HallRuns.{Hall, HallStep, IsHallRun, ServesAt, hall_after, hall_log}
 use Rattle.hall_laws.specs.HallRuns.{home_at, seen_of}
+use Rattle.wire.specs.declared.frame.FrameBody.TheVariants as what
 
 -- ---- one answer
 
@@ -38,8 +36,7 @@ pub record AnswersCopy {K : Type 0} (k : Ghosts K) (h : Hall K) (steps : List (H
 
 -- it says the length of this log and the entries that it has there, as many as an answer has
 abbrev pub IsCopyOf : List Entry → Copy → Type 0
-IsCopyOf log copy =
-    (copy.length ≡ length log) × (copy.entries ≡ entries_from copy.position log)
+IsCopyOf log copy = (copy.length ≡ length log) × (copy.entries ≡ entries_from copy.position log)
 
 -- what any desk answers on any connection is of its log then
 abbrev pub HallCopiesAreOfLogs : {K : Type 0} → Ghosts K → Type 0
@@ -76,8 +73,7 @@ abbrev pub AreCollected : {K : Type 0} → Ghosts K → ℕ → Hall K → List 
 AreCollected k n h steps held [] = Unit {0}
 AreCollected k n h steps held (one ∷ more) =
     IsDesk n one.desk × AnswersCopy k h steps one.at one.desk one.copy
-    × (one.copy.position ≡ length held)
-    × AreCollected k n h steps (held ++ one.copy.entries) more
+    × (one.copy.position ≡ length held) × AreCollected k n h steps (held ++ one.copy.entries) more
 
 -- each was given by desk d, after the first j steps or before
 abbrev pub AreOf : ℕ → ℕ → List Given → Type 0
@@ -111,7 +107,6 @@ HallCopiesBeginItsLog {K} k =
 abbrev pub HallCopiesAgree : {K : Type 0} → Ghosts K → Type 0
 HallCopiesAgree {K} k =
     (n : ℕ) (h : Hall K) (steps : List (HallStep K)) (given other : List Given)
-    → IsHallRun k n h steps → AreCollected k n h steps [] given
-    → AreCollected k n h steps [] other
+    → IsHallRun k n h steps → AreCollected k n h steps [] given → AreCollected k n h steps [] other
     → IsPrefix (collected [] given) (collected [] other)
     ⊎ IsPrefix (collected [] other) (collected [] given)

@@ -1,35 +1,26 @@
 -- A desk reports that another one differs only where it heard that; and the desks of a hall send
 -- nothing by which one of them would be found to differ (the project's own).
-use Rattle.std.specs.Prelude.{ℕ, ◌+◌, ◌-◌, ◌≡◌, ◌≢◌, ◌≤◌, ◌<◌, ◌⊎◌, true, List, [], ◌∷◌, Some}
-use Rattle.std.specs.Prelude.{None, IsOk, IsSome, map, slice_get, slice_index, take}
+use Rattle.std.specs.Prelude.{ℕ, ◌+◌, ◌-◌, ◌≡◌, ◌≢◌, ◌≤◌, ◌<◌, ◌⊎◌, true, List, [], ◌∷◌, Some, None}
+use Rattle.std.specs.Prelude.{IsOk, IsSome, map, slice_get, slice_index, take}
 use Rattle.std.specs.List.{AllByRecursion}
 use Rattle.acceptor.specs.Messages.{Sent}
-use Rattle.acceptor.specs.declared.entry.Entry.{Entry}
+use Rattle.acceptor.specs.declared.{entry.Entry.Entry, message.Message.Message}
 use Rattle.acceptor.specs.declared.message.Body.TheVariants.{Behind, Decided}
-use Rattle.acceptor.specs.declared.message.Message.{Message}
-use Rattle.learner.specs.Desks.{first_desk}
-use Rattle.learner.specs.Steps.{IsDesk}
-use Rattle.learner.specs.Worlds.{nth_sent}
-use Rattle.learner.specs.declared.event.DeskEvent.{DeskEvent}
-use Rattle.learner.specs.declared.event.DeskEvent.TheVariants.{Deliver}
-use Rattle.replica.specs.Lengths.{length_told, nothing_told}
-use Rattle.replica.specs.Stores.{HoldsDesk}
-use Rattle.serving.specs.Asking.{request}
+use Rattle.learner.specs.{Desks.first_desk, Steps.IsDesk, Worlds.nth_sent}
+use Rattle.learner.specs.declared.event.DeskEvent.{DeskEvent, TheVariants.Deliver}
+use Rattle.replica.specs.{Lengths.length_told, Lengths.nothing_told, Stores.HoldsDesk}
+use Rattle.serving.specs.{Asking.request, declared.permission.Permission.Permission}
 use Rattle.serving.specs.Differing.{differs_by, hears, known_after, other_from}
 use Rattle.serving.specs.Making.{Call, calls_of}
-use Rattle.serving.specs.declared.permission.Permission.{Permission}
-use Rattle.store.specs.declared.home.Home.{Home}
-use Rattle.store.specs.declared.keeper.Keeper.{Ghosts}
+use Rattle.store.specs.declared.{home.Home.Home, keeper.Keeper.Ghosts}
 use Rattle.wire.specs.Ranges.{IsFrame}
-use Rattle.wire.specs.declared.frame.Frame.{Frame}
-use Rattle.wire.specs.declared.frame.FrameBody.TheVariants as what
-use Rattle.wire.specs.declared.standing.Difference.{Difference}
+use Rattle.wire.specs.declared.{frame.Frame.Frame, standing.Difference.Difference}
 use Rattle.wire.specs.declared.standing.Difference.TheVariants.{OtherEntry, Shorter}
-use Rattle.hall_laws.specs.Arriving.{decided_each, delivers}
+use Rattle.hall_laws.specs.{Arriving.decided_each, Arriving.delivers, OwnMessages.WereSentTo}
 use Rattle.hall_laws.specs.HallExample.{said_frame, small_run, third_home, three_desks}
 use Rattle.hall_laws.specs.HallRuns.{Hall, HallStep, IsHallRun, acts_of, desk_of, hall_after}
 use Rattle.hall_laws.specs.HallRuns.{hall_log, home_at}
-use Rattle.hall_laws.specs.OwnMessages.{WereSentTo}
+use Rattle.wire.specs.declared.frame.FrameBody.TheVariants as what
 
 -- ---- what is said was heard
 
@@ -57,16 +48,14 @@ pub record TellsShorter (known : List ℕ) (f : Frame) (d : Difference) : Type 0
 abbrev pub DifferencesAreHeard : Type 0
 DifferencesAreHeard =
     (home : Home) (may : Permission) (log : List Entry) (known : List ℕ) (f : Frame)
-    (d : Difference)
-    → differs_by home may log known f ≡ Some d
+    (d : Difference) → differs_by home may log known f ≡ Some d
     → (hears home may f ≡ true) × (TellsOther log f d ⊎ TellsShorter known f d)
 
 -- and wherever one does, one is found
 abbrev pub DifferencesAreFound : Type 0
 DifferencesAreFound =
     (home : Home) (may : Permission) (log : List Entry) (known : List ℕ) (f : Frame)
-    (d : Difference)
-    → hears home may f ≡ true → (TellsOther log f d ⊎ TellsShorter known f d)
+    (d : Difference) → hears home may f ≡ true → (TellsOther log f d ⊎ TellsShorter known f d)
     → IsSome (differs_by home may log known f)
 
 -- ---- what is said
@@ -94,8 +83,7 @@ HallRunsAgree {K} k =
 abbrev pub HallLengthsGrow : {K : Type 0} → Ghosts K → Type 0
 HallLengthsGrow {K} k =
     (n : ℕ) (h : Hall K) (steps : List (HallStep K)) (i a b len : ℕ) (earlier later : Message)
-    → IsHallRun k n h steps → a ≤ b
-    → nth_sent (hall_after h (take i steps)).sent a ≡ Some earlier
+    → IsHallRun k n h steps → a ≤ b → nth_sent (hall_after h (take i steps)).sent a ≡ Some earlier
     → nth_sent (hall_after h (take i steps)).sent b ≡ Some later
     → earlier.from ≡ later.from → later.body ≡ Behind len → length_told earlier.body ≤ len
 
@@ -163,17 +151,14 @@ HallNeverDiffers {K} k =
     → ComesInOrder (home_at k (h.desks d)) h steps i j before f
     → differs_by (home_at k (h.desks d)) may (hall_log h steps i d)
     (known_behind (home_at k (h.desks d)) may
-    ((hall_after h (take j steps)).desks d).node.told before)
-    f ≡ None
+    ((hall_after h (take j steps)).desks d).node.told before) f ≡ None
 
 -- There are such connections: in the small run desk 1 reports to desk 2 twice how long its log is.
 -- Desk 2 accepts a connection once it has heard the first message, and both come on it.
 abbrev pub SmallRunComesInOrder : {K : Type 0} → Ghosts K → Type 0
 SmallRunComesInOrder {K} k =
-    (keeper : ℕ → K)
-    → ((d : ℕ) → IsDesk 3 d
+    (keeper : ℕ → K) → ((d : ℕ) → IsDesk 3 d
     → (k.home_of (keeper d) ≡ third_home d) × HoldsDesk k (keeper d) first_desk)
-    → (steps : List (HallStep K))
-    × (map (λ (s : HallStep K). s.event) steps ≡ small_run)
+    → (steps : List (HallStep K)) × (map (λ (s : HallStep K). s.event) steps ≡ small_run)
     × IsHallRun k 3 (three_desks keeper) steps
     × ComesInOrder (third_home 2) (three_desks keeper) steps 5 4 (said_frame ∷ []) said_frame

@@ -1,25 +1,19 @@
 -- A small run of a hall, in full: so there are such runs, and in them a message of one desk comes
 -- to another (the project's own).
 use Rattle.std.specs.Prelude.{◌≡◌, ℕ, false, List, [], ◌∷◌, map, None, Ok}
-use Rattle.acceptor.specs.declared.message.Body.TheVariants.{Behind}
-use Rattle.acceptor.specs.declared.message.Message.{Message}
-use Rattle.learner.specs.Desks.{first_desk}
-use Rattle.learner.specs.Steps.{IsDesk}
+use Rattle.acceptor.specs.declared.message.{Body.TheVariants.Behind, Message.Message}
+use Rattle.learner.specs.{Desks.first_desk, Steps.IsDesk}
 use Rattle.learner.specs.declared.event.DeskEvent.TheVariants.{Tick, Deliver}
-use Rattle.replica.specs.Lengths.{nothing_told}
-use Rattle.replica.specs.Stores.{HoldsDesk}
-use Rattle.serving.specs.declared.permission.Permission.TheVariants.{All}
+use Rattle.replica.specs.{Lengths.nothing_told, Stores.HoldsDesk}
+use Rattle.serving.specs.{declared.permission.Permission.TheVariants.All, Turns.new_talk}
 use Rattle.serving.specs.Serving.{Act, Called, Pushed, framed}
-use Rattle.serving.specs.Turns.{new_talk}
 use Rattle.serving.specs.TurnLaw.{Turn, Came, Began}
 use Rattle.connections.specs.Connections.{TurnOf}
-use Rattle.store.specs.declared.home.Home.{Home}
-use Rattle.store.specs.declared.keeper.Keeper.{Ghosts}
+use Rattle.store.specs.declared.{home.Home.Home, keeper.Keeper.Ghosts}
 use Rattle.wire.specs.Spelling.{spelling}
-use Rattle.wire.specs.declared.frame.Frame.{Frame}
-use Rattle.wire.specs.declared.frame.FrameBody.TheVariants as what
-use Rattle.wire.specs.declared.values.Version.TheVariants.{Two}
+use Rattle.wire.specs.declared.{frame.Frame.Frame, values.Version.TheVariants.Two}
 use Rattle.hall_laws.specs.HallRuns.{Hall, HallEvent, HallStep, IsHallRun, TurnAt, TickedAt}
+use Rattle.wire.specs.declared.frame.FrameBody.TheVariants as what
 
 -- desk d of three, in hall 7
 abbrev pub third_home : ℕ → Home
@@ -63,8 +57,7 @@ begun_as f = Began (record { frame = f; may = All; differs = None; fates = [] })
 
 -- what desk 1 does at a Tick
 abbrev pub tick_acts : List Act
-tick_acts =
-    Called Tick (Ok (says 2 ∷ says 3 ∷ [])) ∷ Pushed (says 2) ∷ Pushed (says 3) ∷ []
+tick_acts = Called Tick (Ok (says 2 ∷ says 3 ∷ [])) ∷ Pushed (says 2) ∷ Pushed (says 3) ∷ []
 
 -- The client's bytes come to desk 1, which begins the frame, and says to desks 2 and 3 how long its
 -- log is. What it says to desk 2 comes there, and desk 2 is given it, and has nothing to answer.
@@ -81,9 +74,7 @@ small_run =
 -- these events are a run of three desks, whatever keeps their state
 abbrev pub SmallRunIsARun : {K : Type 0} → Ghosts K → Type 0
 SmallRunIsARun {K} k =
-    (keeper : ℕ → K)
-    → ((d : ℕ) → IsDesk 3 d
+    (keeper : ℕ → K) → ((d : ℕ) → IsDesk 3 d
     → (k.home_of (keeper d) ≡ third_home d) × HoldsDesk k (keeper d) first_desk)
-    → (steps : List (HallStep K))
-    × (map (λ (s : HallStep K). s.event) steps ≡ small_run)
+    → (steps : List (HallStep K)) × (map (λ (s : HallStep K). s.event) steps ≡ small_run)
     × IsHallRun k 3 (three_desks keeper) steps

@@ -1,40 +1,26 @@
 -- How a hall can continue at every moment of its runs: a desk ticks itself, or a frame comes to a
 -- desk over a connection of its own. Turns of connections make whatever such a request comes to at
 -- the desk.
-use Rattle.std.specs.Prelude.{ℕ, ◌≡◌, ◌⊎◌, true, false, List, [], ◌∷◌, ◌++◌, length, map}
-use Rattle.std.specs.Prelude.{None}
-use Rattle.acceptor.specs.declared.entry.Entry.{Entry}
-use Rattle.acceptor.specs.declared.message.Message.{Message}
-use Rattle.learner.specs.Steps.{IsDesk}
-use Rattle.learner.specs.Worlds.{World}
+use Rattle.std.specs.Prelude.{ℕ, ◌≡◌, ◌⊎◌, true, false, List, [], ◌∷◌, ◌++◌, length, map, None}
+use Rattle.acceptor.specs.declared.{entry.Entry.Entry, message.Message.Message}
+use Rattle.learner.specs.{Steps.IsDesk, Worlds.World, declared.event.DeskEvent.DeskEvent}
 use Rattle.answers.specs.Seen.{Seen}
-use Rattle.learner.specs.declared.event.DeskEvent.{DeskEvent}
 use Rattle.learner.specs.declared.event.DeskEvent.TheVariants.{Deliver, Start}
-use Rattle.serving.specs.declared.permission.Permission.TheVariants.{All}
-use Rattle.serving.specs.Asking.{request}
-use Rattle.serving.specs.Connection.{Begun, close_of}
+use Rattle.serving.specs.{declared.permission.Permission.TheVariants.All, Asking.request}
+use Rattle.serving.specs.{Connection.Begun, Connection.close_of, TurnLaw.Came, TurnLaw.Began}
 use Rattle.serving.specs.Making.{Call, Makes, calls_of}
-use Rattle.serving.specs.Nodes.{Fate}
+use Rattle.serving.specs.{Nodes.Fate, Telling.entries_said, Telling.run_frame}
 use Rattle.serving.specs.Serving.{Act, framed, grew, served}
-use Rattle.serving.specs.Telling.{entries_said, run_frame}
-use Rattle.serving.specs.TurnLaw.{Came, Began}
-use Rattle.serving.specs.declared.request.Request.{Request}
+use Rattle.serving.specs.declared.request.{Request.Request, DecidedRun.DecidedRun}
 use Rattle.serving.specs.declared.request.Request.TheVariants.{Entered, Ticked}
-use Rattle.serving.specs.declared.request.DecidedRun.{DecidedRun}
-use Rattle.store.specs.declared.home.Home.{Home}
-use Rattle.store.specs.declared.keeper.Keeper.{Ghosts}
-use Rattle.wire.specs.Ranges.{IsFrame}
-use Rattle.wire.specs.Spelling.{spelling}
-use Rattle.wire.specs.declared.frame.Frame.{Frame}
-use Rattle.wire.specs.declared.frame.FrameBody.TheVariants as what
-use Rattle.wire.specs.declared.values.Version.{Version}
-use Rattle.hall_laws.specs.Arriving.{decided_each}
+use Rattle.store.specs.declared.{home.Home.Home, keeper.Keeper.Ghosts}
+use Rattle.wire.specs.{Ranges.IsFrame, Spelling.spelling}
+use Rattle.wire.specs.declared.{frame.Frame.Frame, values.Version.Version}
+use Rattle.hall_laws.specs.{Arriving.decided_each, OwnMessages.WereSentTo, Served.all_handed_out}
 use Rattle.hall_laws.specs.HallRuns.{Station, Hall, home_at, seen_of, beside, OnlyAt, FrameWasSent}
 use Rattle.hall_laws.specs.HallRuns.{HallEvent, TurnAt, TickedAt, HallStep, IsHallRun, hall_after}
-use Rattle.hall_laws.specs.HallRuns.{IsTakenIn, IsWorld}
-use Rattle.hall_laws.specs.OwnMessages.{WereSentTo}
-use Rattle.hall_laws.specs.Served.{all_handed_out}
-use Rattle.hall_laws.specs.Stops.{with_desk}
+use Rattle.hall_laws.specs.{HallRuns.IsTakenIn, HallRuns.IsWorld, Stops.with_desk}
+use Rattle.wire.specs.declared.frame.FrameBody.TheVariants as what
 
 -- ---- a request that is served
 
@@ -106,21 +92,17 @@ ComesOver k n d h steps f y =
 abbrev pub FramesGoOn : {K : Type 0} → Ghosts K → Type 0
 FramesGoOn {K} k =
     (n d : ℕ) (h : Hall K) (steps : List (HallStep K)) (f : Frame) (y : Station K)
-    → IsHallRun k n h steps → IsDesk n d → IsFrame f
-    → let x = (hall_after h steps).desks d in
+    → IsHallRun k n h steps → IsDesk n d → IsFrame f → let x = (hall_after h steps).desks d in
     FrameWasSent (home_at k x) (hall_after h steps).sent (as_it_goes f)
     → close_of (home_at k x) (seen_of x.node) (as_it_goes f) ≡ None
-    → IsServedTo k (request (home_at k x) f) x y
-    → ComesOver k n d h steps f y
+    → IsServedTo k (request (home_at k x) f) x y → ComesOver k n d h steps f y
 
 -- Each message that was sent to the desk can come too, as the frame in which it is pushed, if the
 -- desk is up after it.
 abbrev pub MessagesGoOn : {K : Type 0} → Ghosts K → Type 0
 MessagesGoOn {K} k =
     (n d : ℕ) (h : Hall K) (steps : List (HallStep K)) (version : Version) (m : Message)
-    (y : Station K)
-    → IsHallRun k n h steps → IsDesk n d
-    → let x = (hall_after h steps).desks d in
+    (y : Station K) → IsHallRun k n h steps → IsDesk n d → let x = (hall_after h steps).desks d in
     let f = framed version (home_at k x).hall m in
     IsFrame f → m.to ≡ d → WereSentTo d (hall_after h steps).sent (Deliver m ∷ [])
     → IsServedTo k (request (home_at k x) f) x y → y.node.is_down ≡ false
@@ -130,12 +112,9 @@ MessagesGoOn {K} k =
 abbrev pub RunsGoOn : {K : Type 0} → Ghosts K → Type 0
 RunsGoOn {K} k =
     (n d : ℕ) (h : Hall K) (steps : List (HallStep K)) (version : Version) (entries : DecidedRun)
-    (y : Station K)
-    → IsHallRun k n h steps → IsDesk n d
-    → let x = (hall_after h steps).desks d in
+    (y : Station K) → IsHallRun k n h steps → IsDesk n d → let x = (hall_after h steps).desks d in
     let f = run_frame version (home_at k x).hall entries in
-    IsFrame f → entries.to ≡ d
-    → WereSentTo d (hall_after h steps).sent
+    IsFrame f → entries.to ≡ d → WereSentTo d (hall_after h steps).sent
     (decided_each entries.from entries.to entries.pos (entries_said version entries.entries))
     → IsServedTo k (request (home_at k x) f) x y → y.node.is_down ≡ false
     → ComesOver k n d h steps f y

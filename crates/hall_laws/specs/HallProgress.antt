@@ -1,12 +1,9 @@
 -- That desks which serve never come into a state in which a majority of them could not decide (the
 -- project's own).
 use Rattle.std.specs.Prelude.{◌≡◌, ℕ, List, ◌++◌, length, take}
-use Rattle.acceptor.specs.declared.entry.Entry.{Entry}
-use Rattle.acceptor.specs.declared.message.Message.{Message}
-use Rattle.learner.specs.Chosen.{Has, IsMajority}
-use Rattle.learner.specs.Steps.{IsDesk}
-use Rattle.learner.specs.Worlds.{World, after}
-use Rattle.learner.specs.declared.event.WorldEvent.{WorldEvent}
+use Rattle.acceptor.specs.declared.{entry.Entry.Entry, message.Message.Message}
+use Rattle.learner.specs.{Chosen.Has, Chosen.IsMajority, Worlds.World, Worlds.after}
+use Rattle.learner.specs.{Steps.IsDesk, declared.event.WorldEvent.WorldEvent}
 use Rattle.progress.specs.Progress.{CanDecide, HasRoom}
 use Rattle.store.specs.declared.keeper.Keeper.{Ghosts}
 use Rattle.hall_laws.specs.HallRuns.{Hall, HallStep, IsHallRun, hall_after}
@@ -28,10 +25,8 @@ pub record ComesTo {K : Type 0} (n : ℕ) (past : List WorldEvent) (h : Hall K) 
 abbrev pub HallsAreNotStuck : {K : Type 0} → Ghosts K → Type 0
 HallsAreNotStuck {K} k =
     (n : ℕ) (h : Hall K) (steps : List (HallStep K)) (i d : ℕ) (desks : List ℕ)
-    (es rest : List Entry)
-    → IsHallRun k n h steps → IsMajority n desks → Has desks d
+    (es rest : List Entry) → IsHallRun k n h steps → IsMajority n desks → Has desks d
     → ((world_of (hall_after h (take i steps))).desks d).queue ≡ es ++ rest
     → HasRoom d desks (world_of (hall_after h (take i steps))) (length es)
-    → (past : List WorldEvent)
-    × ComesTo n past (hall_after h (take i steps))
+    → (past : List WorldEvent) × ComesTo n past (hall_after h (take i steps))
     × CanDecide n d desks (after n past) es rest

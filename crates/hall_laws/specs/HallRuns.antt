@@ -2,44 +2,29 @@
 -- happen there, one event after the other, in any order (the project's own).
 use Rattle.std.specs.Prelude.{ℕ, ◌≡◌, ◌≢◌, ◌≤◌, ◌⊎◌, true, false, IsOk, List, [], ◌∷◌, ◌++◌, length}
 use Rattle.std.specs.Prelude.{Option, Some, slice_get, take}
-use Rattle.acceptor.specs.declared.entry.Entry.{Entry}
-use Rattle.acceptor.specs.declared.message.Message.{Message}
-use Rattle.answers.specs.Answers.{sheet_at}
-use Rattle.answers.specs.Seen.{Seen}
+use Rattle.acceptor.specs.declared.{entry.Entry.Entry, message.Message.Message}
+use Rattle.answers.specs.{Answers.sheet_at, Seen.Seen}
 use Rattle.formats.specs.declared.events.Event.{Event as EventOf}
-use Rattle.learner.specs.Desks.{Desk, first_desk}
-use Rattle.learner.specs.Laws.{IsPrefix}
-use Rattle.learner.specs.Ranges.{AreInRange}
-use Rattle.learner.specs.Steps.{IsDesk}
+use Rattle.learner.specs.{Desks.Desk, Desks.first_desk, declared.event.DeskEvent.TheVariants.Submit}
+use Rattle.learner.specs.{Laws.IsPrefix, Ranges.AreInRange, Steps.IsDesk}
 use Rattle.learner.specs.Worlds.{World, new_world}
-use Rattle.learner.specs.declared.event.DeskEvent.TheVariants.{Submit}
-use Rattle.replica.specs.Handles.{Handles, step_at}
-use Rattle.replica.specs.Settles.{Settles}
-use Rattle.replica.specs.Nodes.{NodeValue}
-use Rattle.replica.specs.Opens.{Opens}
-use Rattle.replica.specs.Stores.{HoldsDesk, HoldsStep}
-use Rattle.serving.specs.Adding.{Push}
-use Rattle.serving.specs.Asking.{request}
+use Rattle.replica.specs.{Handles.Handles, Handles.step_at, Stores.HoldsDesk, Stores.HoldsStep}
+use Rattle.replica.specs.{Settles.Settles, Nodes.NodeValue, Opens.Opens}
+use Rattle.serving.specs.{Adding.Push, Asking.request, Connection.serve_frame, Serving.Act}
 use Rattle.serving.specs.Connection.{asked, Begun, Sides, DoesFront, answer_bytes, answer_frame}
-use Rattle.serving.specs.Connection.{serve_frame}
 use Rattle.serving.specs.Making.{Call, Lead, Makes, Outside, Way, calls_of, outside_of, speaking}
-use Rattle.serving.specs.Serving.{Act}
-use Rattle.serving.specs.Turns.{Talk, new_talk}
-use Rattle.serving.specs.TurnLaw.{Place, Turn, Came, Began, Rested, Took, sides_in}
-use Rattle.serving.specs.declared.ends.ConnectionEnd.{ConnectionEnd}
-use Rattle.serving.specs.declared.ends.ConnectionEnd.TheVariants as end
+use Rattle.serving.specs.{Turns.Talk, Turns.new_talk, declared.ends.ConnectionEnd.ConnectionEnd}
+use Rattle.serving.specs.TurnLaw.{Place, Turn, Began, sides_in}
 use Rattle.serving.specs.declared.request.Request.TheVariants.{Printed, Ticked}
 use Rattle.connections.specs.Connections.{Connections, Goes, TurnOf, place_of}
-use Rattle.store.specs.declared.home.Home.{Home}
-use Rattle.store.specs.declared.keeper.Keeper.{Ghosts}
-use Rattle.wire.specs.declared.frame.Frame.{Frame}
-use Rattle.wire.specs.declared.frame.FrameBody.TheVariants as what
+use Rattle.store.specs.declared.{home.Home.Home, keeper.Keeper.Ghosts}
+use Rattle.wire.specs.declared.{frame.Frame.Frame, values.Version.Version}
 use Rattle.formats.specs.declared.styles.SheetStyle.{SheetStyle as Style}
-use Rattle.wire.specs.declared.values.Version.{Version}
-use Rattle.hall_laws.specs.Arriving.{delivers}
+use Rattle.hall_laws.specs.{Arriving.delivers, Served.all_handed_out}
 use Rattle.hall_laws.specs.OwnMessages.{WereSentTo, sent_after}
-use Rattle.hall_laws.specs.Served.{all_handed_out}
-use Rattle.hall_laws.specs.Stops.{Happening, real_run}
+use Rattle.hall_laws.specs.Stops.{AreMoments, AreTaken, Happening, state_after}
+use Rattle.serving.specs.declared.ends.ConnectionEnd.TheVariants as end
+use Rattle.wire.specs.declared.frame.FrameBody.TheVariants as what
 
 -- ---- a hall
 
@@ -112,20 +97,17 @@ pub record OnlyAt {K : Type 0} (d : ℕ) (acts : List Act) (h g : Hall K) : Type
 -- what is done for a frame that was begun: all that it comes to, or a front part of it where memory
 -- is refused
 abbrev pub AreDoneFor : {V : Type 0} → {way : Way V} → Option ConnectionEnd → Home → Sides way
-    → Sides way
-    → Begun → List Act → Type 0
+    → Sides way → Begun → List Act → Type 0
 AreDoneFor (Some end.NoMemory) home a b one acts =
     (rest : List Act) × DoesFront home a b one acts rest
 AreDoneFor _ home a b one acts = acts ≡ (serve_frame home a.seen one).acts
 
 -- what is done in a turn: nothing where no frame is begun
 abbrev pub AreDone : {V : Type 0} → {way : Way V} → Turn → Place way → Place way → List Act → Type 0
-AreDone (Came piece) a b acts = acts ≡ []
 AreDone (Began one) a b acts =
     AreDoneFor b.talk.end a.talk.home (sides_in a a.talk.pending) (sides_in b b.talk.pending) one
     acts
-AreDone Rested a b acts = acts ≡ []
-AreDone (Took bytes) a b acts = acts ≡ []
+AreDone _ a b acts = acts ≡ []
 
 -- each message that a frame brings is for this desk, and a call of a desk of the hall has handed it
 -- out before
@@ -133,10 +115,8 @@ abbrev pub FrameWasSent : Home → List Message → Begun → Type 0
 FrameWasSent home sent one = WereSentTo home.desk sent (delivers (asked home one))
 
 abbrev pub TurnWasSent : Home → List Message → Turn → Type 0
-TurnWasSent home sent (Came piece) = Unit {0}
 TurnWasSent home sent (Began one) = FrameWasSent home sent one
-TurnWasSent home sent Rested = Unit {0}
-TurnWasSent home sent (Took bytes) = Unit {0}
+TurnWasSent home sent _ = Unit {0}
 
 -- desk d makes a turn of one of its connections
 pub record TakesTurn {K : Type 0} (k : Ghosts K) (n d : ℕ) (t : TurnOf) (acts : List Act)
@@ -264,8 +244,8 @@ pub record HallStep (K : Type 0) : Type 0 where
   pub after : Hall K
 
 abbrev pub AreSteps : {K : Type 0} → Ghosts K → ℕ → Hall K → List (HallStep K) → Type 0
-AreSteps k n h [] = Unit {0}
-AreSteps k n h (s ∷ ss) = HallGoes k n s.event h s.after × AreSteps k n s.after ss
+AreSteps {K} k n h steps =
+    AreTaken (λ (s : HallStep K). s.after) (λ g s. HallGoes k n s.event g s.after) h steps
 
 -- desk d of n, that was opened over an empty store
 pub record IsFirst {K : Type 0} (k : Ghosts K) (n d : ℕ) (x : Station K) : Type 0 where
@@ -285,8 +265,7 @@ pub record IsHallRun {K : Type 0} (k : Ghosts K) (n : ℕ) (h : Hall K)
 
 -- the hall after these steps
 abbrev pub hall_after : {K : Type 0} → Hall K → List (HallStep K) → Hall K
-hall_after h [] = h
-hall_after h (s ∷ ss) = hall_after s.after ss
+hall_after {K} h steps = state_after (λ (s : HallStep K). s.after) h steps
 
 -- the log of desk d after the first i steps
 abbrev pub hall_log : {K : Type 0} → Hall K → List (HallStep K) → ℕ → ℕ → List Entry
@@ -302,11 +281,8 @@ pub record IsWorld {K : Type 0} (n : ℕ) (h : Hall K) (w : World) : Type 0 wher
 -- so it is at first, and after each step, where each step is these happenings
 abbrev pub AreHappenings : {K : Type 0} → ℕ → Hall K → World → List (HallStep K)
     → List (List Happening) → Type 0
-AreHappenings n h w [] [] = IsWorld n h w
-AreHappenings n h w [] (hs ∷ rest) = ⊥
-AreHappenings n h w (s ∷ ss) [] = ⊥
-AreHappenings n h w (s ∷ ss) (hs ∷ rest) =
-    IsWorld n h w × AreHappenings n s.after (real_run n w hs) ss rest
+AreHappenings {K} n h w steps each =
+    AreMoments (λ (s : HallStep K). s.after) (λ g v. IsWorld n g v) n h w steps each
 
 -- the calls of all desks together are a run of the world
 abbrev pub HallsAreRuns : {K : Type 0} → Ghosts K → Type 0
@@ -338,10 +314,8 @@ IsTakenIn e (c ∷ cs) = ((c.event ≡ Submit e) × IsOk c.answer) ⊎ IsTakenIn
 -- what is done in the event is done for this frame of a connection
 abbrev pub BeginsIn : HallEvent → Begun → Type 0
 BeginsIn (TurnAt d t acts) one = t.turn ≡ Began one
-BeginsIn (TickedAt d tick acts) one = ⊥
-BeginsIn (SettledAt d) one = ⊥
-BeginsIn (OpenedAt d) one = ⊥
 BeginsIn (CutAt d cut acts) one = cut ≡ one
+BeginsIn _ one = ⊥
 
 -- a desk begins a frame that submits the entry, and accepts the entry
 pub record Enters (event : HallEvent) (e : Entry) : Type 0 where
@@ -381,8 +355,7 @@ pub record ServesAt {K : Type 0} (steps : List (HallStep K)) (at d number : ℕ)
 abbrev pub HallAnswersWait : {K : Type 0} → Ghosts K → Type 0
 HallAnswersWait {K} k =
     (n : ℕ) (h : Hall K) (steps : List (HallStep K)) (at d number : ℕ) (one : Begun)
-    (step : HallStep K)
-    → IsHallRun k n h steps → ServesAt steps at d number one step
+    (step : HallStep K) → IsHallRun k n h steps → ServesAt steps at d number one step
     → let x = (hall_after h (take at steps)).desks d in
     ((step.after.desks d).talks number).pending
     ≡ answer_bytes (serve_frame (home_at k x) (seen_of x.node) one).answers
@@ -427,18 +400,15 @@ HallSheetsAreOfLogs {K} k =
 abbrev pub HallSheetsAgree : {K : Type 0} → Ghosts K → Type 0
 HallSheetsAgree {K} k =
     (n : ℕ) (h : Hall K) (steps : List (HallStep K)) (i j d f : ℕ) (sheet : SheetAsked)
-    (text other : List ℕ)
-    → IsHallRun k n h steps → IsDesk n d → IsDesk n f
-    → AnswersSheet k h steps i d sheet text → AnswersSheet k h steps j f sheet other
-    → text ≡ other
+    (text other : List ℕ) → IsHallRun k n h steps → IsDesk n d → IsDesk n f
+    → AnswersSheet k h steps i d sheet text → AnswersSheet k h steps j f sheet other → text ≡ other
 
 -- ---- that nothing is left out
 
 -- Each turn that a desk of the hall makes is such an event, where what its frame brings was sent.
 abbrev pub TurnsAreEvents : {K : Type 0} → Ghosts K → Type 0
 TurnsAreEvents {K} k =
-    (n d : ℕ) (h : Hall K) (t : TurnOf) (y : Station K)
-    → IsDesk n d → y.wire ≡ (h.desks d).wire
+    (n d : ℕ) (h : Hall K) (t : TurnOf) (y : Station K) → IsDesk n d → y.wire ≡ (h.desks d).wire
     → Goes t (connections k (h.desks d).wire (h.desks d)) (connections k (h.desks d).wire y)
     → TurnWasSent (home_at k (h.desks d)) h.sent t.turn
     → (acts : List Act) × (g : Hall K) × (g.desks d ≡ y) × HallGoes k n (TurnAt d t acts) h g

@@ -2,23 +2,16 @@
 -- majority of them, as serving does these (the project's own).
 use Rattle.std.specs.Prelude.{ℕ, ◌≡◌, ◌≤◌, ◌<◌, ◌⊎◌, false, List, [], ◌∷◌, ◌++◌, Option, Some, None}
 use Rattle.std.specs.Prelude.{length, map}
-use Rattle.acceptor.specs.declared.entry.Entry.{Entry}
-use Rattle.acceptor.specs.declared.message.Message.{Message}
-use Rattle.learner.specs.Chosen.{Has, IsMajority}
-use Rattle.learner.specs.Worlds.{nth_sent}
-use Rattle.progress.specs.Progress.{IsAmong, StandFrom, enough}
-use Rattle.progress.specs.Turns.{HasTurnRoom}
-use Rattle.serving.specs.Asking.{request}
-use Rattle.serving.specs.Serving.{framed}
-use Rattle.serving.specs.declared.request.Request.{Request}
-use Rattle.serving.specs.declared.request.Request.TheVariants.{Ticked}
+use Rattle.acceptor.specs.declared.{entry.Entry.Entry, message.Message.Message}
+use Rattle.learner.specs.{Chosen.Has, Chosen.IsMajority, Worlds.nth_sent}
+use Rattle.progress.specs.{Progress.IsAmong, Progress.StandFrom, Progress.enough, Turns.HasTurnRoom}
+use Rattle.serving.specs.{Asking.request, Serving.framed}
+use Rattle.serving.specs.declared.request.Request.{Request, TheVariants.Ticked}
 use Rattle.store.specs.declared.keeper.Keeper.{Ghosts}
-use Rattle.wire.specs.Ranges.{IsFrame}
-use Rattle.wire.specs.declared.frame.Frame.{Frame}
+use Rattle.wire.specs.{Ranges.IsFrame, declared.frame.Frame.Frame}
 use Rattle.hall_laws.specs.HallGoing.{acts_for, comes_over, ticked, IsServedTo}
-use Rattle.hall_laws.specs.HallProgress.{world_of}
+use Rattle.hall_laws.specs.{HallProgress.world_of, HallRuns.hall_after}
 use Rattle.hall_laws.specs.HallRuns.{Station, Hall, home_at, HallEvent, HallStep, IsHallRun}
-use Rattle.hall_laws.specs.HallRuns.{hall_after}
 
 -- ---- what a majority does by itself
 
@@ -47,15 +40,13 @@ events_of_message k h number (Some m) =
 -- including a Start. A message of a desk to itself comes in a turn too, over a connection.
 abbrev pub events_of_turn : {K : Type 0} → Ghosts K → ℕ → Hall K → OwnTurn → List HallEvent
 events_of_turn k d h DeskTicks = ticked k d (h.desks d) ∷ []
-events_of_turn k d h (MessageComes number at) =
-    events_of_message k h number (nth_sent h.sent at)
+events_of_turn k d h (MessageComes number at) = events_of_message k h number (nth_sent h.sent at)
 
 -- a message is from one of these desks to one of them, and was handed out after the first `start`
 -- messages
 abbrev pub IsOwn : {K : Type 0} → List ℕ → ℕ → Hall K → OwnTurn → Type 0
 IsOwn desks start h DeskTicks = Unit {0}
-IsOwn desks start h (MessageComes number at) =
-    (start < at) × IsAmong desks (nth_sent h.sent at)
+IsOwn desks start h (MessageComes number at) = (start < at) × IsAmong desks (nth_sent h.sent at)
 
 -- the steps that follow are such turns, one after the other, and nothing else
 abbrev pub AreOwnTurns : {K : Type 0} → Ghosts K → ℕ → List ℕ → ℕ → Hall K
@@ -99,14 +90,13 @@ pub record CanServe {K : Type 0} (k : Ghosts K) (n d : ℕ) (desks : List ℕ) (
   pub frames : (turns : List OwnTurn) (more : List (HallStep K)) (at : ℕ) (m : Message)
       → AreOwnTurns k d desks (length (hall_after h steps).sent) h steps turns more
       → IsHallRun k n h (steps ++ more) → length (hall_after h steps).sent < at
-      → nth_sent (hall_after h (steps ++ more)).sent at ≡ Some m
-      → Has desks m.from → Has desks m.to
+      → nth_sent (hall_after h (steps ++ more)).sent at ≡ Some m → Has desks m.from → Has desks m.to
       → IsFrame (frame_of k (hall_after h (steps ++ more)) m)
 
 -- ---- the law
 
--- the run continues with such turns alone, and no more of them than that, until these entries are in
--- desk d's log, past what is there now and in their order, and these are left in its queue
+-- the run continues with such turns alone, and no more of them than that, until these entries are
+-- in desk d's log, past what is there now and in their order, and these are left in its queue
 pub record HallDecides {K : Type 0} (k : Ghosts K) (n d : ℕ) (desks : List ℕ) (h : Hall K)
     (steps : List (HallStep K)) (es rest : List Entry) : Type 0 where
   pub turns : List OwnTurn
@@ -118,14 +108,12 @@ pub record HallDecides {K : Type 0} (k : Ghosts K) (n d : ℕ) (desks : List ℕ
       ((hall_after h (steps ++ more)).desks d).node.desk.log
   pub queue : ((hall_after h (steps ++ more)).desks d).node.desk.queue ≡ rest
 
--- After every run of a hall, a majority of its desks decides by itself the first entries that a desk
--- of it has queued, as many as there is room for.
+-- After every run of a hall, a majority of its desks decides by itself the first entries that a
+-- desk of it has queued, as many as there is room for.
 abbrev pub ServingDecides : {K : Type 0} → Ghosts K → Type 0
 ServingDecides {K} k =
-    (n : ℕ) (h : Hall K) (steps : List (HallStep K)) (d : ℕ) (desks : List ℕ)
-    (es rest : List Entry)
+    (n : ℕ) (h : Hall K) (steps : List (HallStep K)) (d : ℕ) (desks : List ℕ) (es rest : List Entry)
     → IsHallRun k n h steps → IsMajority n desks → Has desks d
     → ((hall_after h steps).desks d).node.desk.queue ≡ es ++ rest
-    → HasTurnRoom d desks (world_of (hall_after h steps)) (length es)
-    → CanServe k n d desks h steps
+    → HasTurnRoom d desks (world_of (hall_after h steps)) (length es) → CanServe k n d desks h steps
     → HallDecides k n d desks h steps es rest

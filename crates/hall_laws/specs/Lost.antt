@@ -1,16 +1,14 @@
 -- A desk that stops before it has settled what it changed: nothing of that has left it (the
 -- project's own).
 use Rattle.std.specs.Prelude.{ℕ, ◌≡◌, ◌≢◌, ◌⊎◌, false, List, [], ◌∷◌, ◌++◌}
-use Rattle.acceptor.specs.declared.entry.Entry.{Entry}
-use Rattle.acceptor.specs.declared.message.Message.{Message}
+use Rattle.acceptor.specs.declared.{entry.Entry.Entry, message.Message.Message}
 use Rattle.acceptor.specs.declared.stored.Stored.{Stored}
 use Rattle.learner.specs.Steps.{IsDesk}
-use Rattle.replica.specs.Nodes.{NodeValue}
-use Rattle.replica.specs.Settles.{Settles}
+use Rattle.replica.specs.{Nodes.NodeValue, Settles.Settles}
 use Rattle.store.specs.declared.keeper.Keeper.{Ghosts}
 use Rattle.hall_laws.specs.HallRuns.{AreSteps, CutAt, Hall, HallEvent, HallStep, IsHallRun}
-use Rattle.hall_laws.specs.HallRuns.{IsOpened, OpenedAt}
-use Rattle.hall_laws.specs.HallRuns.{SettledAt, Station, TickedAt, TurnAt, hall_after, home_at}
+use Rattle.hall_laws.specs.HallRuns.{IsOpened, OpenedAt, SettledAt, Station, TickedAt, TurnAt}
+use Rattle.hall_laws.specs.HallRuns.{hall_after, home_at}
 
 -- desk d works: it makes a turn or a Tick of its own, or settles what it has changed
 abbrev pub IsWorkOf : ℕ → HallEvent → Type 0
@@ -56,11 +54,9 @@ pub record Lands {K : Type 0} (d : ℕ) (y : Station K) (h g : Hall K) : Type 0 
 
 -- desk d is opened again, after it stopped between two turns or in the middle of one
 abbrev pub IsOpeningOf : ℕ → HallEvent → Type 0
-IsOpeningOf d (TurnAt e t acts) = ⊥
-IsOpeningOf d (TickedAt e one acts) = ⊥
-IsOpeningOf d (SettledAt e) = ⊥
 IsOpeningOf d (OpenedAt e) = e ≡ d
 IsOpeningOf d (CutAt e one acts) = e ≡ d
+IsOpeningOf d _ = ⊥
 
 -- The hall has taken the first steps of this work, and then desk d was opened again, as y. So the
 -- store was to hold what was found after them, or in the middle of the next one (`OpensAgain`,
@@ -80,6 +76,5 @@ pub record GoesWithout {K : Type 0} (k : Ghosts K) (n d : ℕ) (h : Hall K)
 abbrev pub LostWorkIsNothing : {K : Type 0} → Ghosts K → Type 0
 LostWorkIsNothing {K} k =
     (n : ℕ) (first : Hall K) (before : List (HallStep K)) (d : ℕ) (work : List (HallStep K))
-    (y : Station K)
-    → IsHallRun k n first before → Loses k n d (hall_after first before) work y
+    (y : Station K) → IsHallRun k n first before → Loses k n d (hall_after first before) work y
     → GoesWithout k n d (hall_after first before) work y

@@ -1,10 +1,8 @@
 -- A keeper of a kind that never fails: it remembers what it is given, and nothing waits (the
 -- project's own). So there are keepers that meet what laws ask of keepers of any kind.
 use Rattle.std.specs.Prelude.{◌≡◌, false, List}
-use Rattle.acceptor.specs.declared.entry.Entry.{Entry}
-use Rattle.acceptor.specs.declared.stored.Stored.{Stored}
-use Rattle.store.specs.declared.home.Home.{Home}
-use Rattle.store.specs.declared.keeper.Keeper.{Ghosts}
+use Rattle.acceptor.specs.declared.{entry.Entry.Entry, stored.Stored.Stored}
+use Rattle.store.specs.declared.{home.Home.Home, keeper.Keeper.Ghosts}
 
 pub record Memory : Type 0 where
   pub home : Home

@@ -1,23 +1,17 @@
 -- What a desk is given while it serves was sent. The premise is of what the frames bring: those of
--- other desks over the network, and those that a desk has pushed to itself, over a connection of its
--- own.
+-- other desks over the network, and those that a desk has pushed to itself, over a connection of
+-- its own.
 use Rattle.std.specs.Prelude.{◌≡◌, ℕ, List, [], ◌∷◌, ◌++◌}
 use Rattle.acceptor.specs.declared.message.Message.{Message}
-use Rattle.learner.specs.declared.event.DeskEvent.{DeskEvent}
-use Rattle.learner.specs.Worlds.{World}
-use Rattle.replica.specs.Handles.{Handles}
-use Rattle.replica.specs.Nodes.{NodeValue}
-use Rattle.store.specs.declared.home.Home.{Home}
-use Rattle.store.specs.declared.keeper.Keeper.{Ghosts}
+use Rattle.learner.specs.{declared.event.DeskEvent.DeskEvent, Worlds.World}
+use Rattle.replica.specs.{Handles.Handles, Nodes.NodeValue}
+use Rattle.store.specs.declared.{home.Home.Home, keeper.Keeper.Ghosts}
 use Rattle.answers.specs.Seen.{Seen}
 use Rattle.serving.specs.Connection.{asked, Begun, serve_frame, serve_frames}
 use Rattle.serving.specs.Making.{Lead, calls_of}
-use Rattle.serving.specs.Nodes.{Fate}
-use Rattle.serving.specs.Serving.{Act, served}
-use Rattle.serving.specs.declared.request.Request.{Request}
-use Rattle.hall_laws.specs.Arriving.{delivers}
+use Rattle.serving.specs.{Nodes.Fate, Serving.Act, Serving.served, declared.request.Request.Request}
+use Rattle.hall_laws.specs.{Arriving.delivers, Stops.Happening, Stops.real_run, Stops.with_desk}
 use Rattle.hall_laws.specs.Served.{all_handed_out, IsSentTo, AreSentTo, StandsFor}
-use Rattle.hall_laws.specs.Stops.{Happening, real_run, with_desk}
 
 -- each of these messages is among those sent, and is for desk d
 abbrev pub WereSentTo : ℕ → List Message → List DeskEvent → Type 0
@@ -72,8 +66,7 @@ Happen n d w acts y =
 abbrev pub RequestsHappen : {K : Type 0} → Ghosts K → Type 0
 RequestsHappen {K} k =
     (n d : ℕ) (w : World) (seen : Seen) (fates : List Fate) (r : Request) (acts rest : List Act)
-    (x y : NodeValue K)
-    → StandsFor k n d w x → WereSentTo d w.sent (delivers r)
+    (x y : NodeValue K) → StandsFor k n d w x → WereSentTo d w.sent (delivers r)
     → (served (k.home_of x.keeper) seen fates r).done ≡ acts ++ rest
     → Lead (Handles k) x (calls_of acts) y → Happen n d w acts y
 

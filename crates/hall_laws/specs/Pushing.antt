@@ -1,27 +1,20 @@
 -- What is pushed while a request is served, said of what the calls hand out and not of the order in
 -- which serving does things (the project's own).
 use Rattle.std.specs.Prelude.{◌≡◌, ℕ, ◌-◌, Bool, true, false, if◌then◌else◌, List, [], ◌∷◌, ◌++◌}
-use Rattle.std.specs.Prelude.{length, map, take, drop, Option, None, Some, Result, Ok, Err}
+use Rattle.std.specs.Prelude.{length, map, take, drop, Option, None, Some, Result, Err}
 use Rattle.acceptor.specs.declared.message.Message.{Message}
 use Rattle.answers.specs.Seen.{Seen}
-use Rattle.hall_laws.specs.Arriving.{delivers}
-use Rattle.hall_laws.specs.Served.{handed_out}
+use Rattle.hall_laws.specs.{Arriving.delivers, Served.handed_out}
 use Rattle.learner.specs.Learning.{told}
-use Rattle.learner.specs.declared.event.DeskEvent.{DeskEvent}
-use Rattle.learner.specs.declared.event.DeskEvent.TheVariants.{Submit, Tick}
+use Rattle.learner.specs.declared.event.DeskEvent.{DeskEvent, TheVariants.Submit, TheVariants.Tick}
 use Rattle.replica.specs.declared.roles.fault.NodeFault.{NodeFault}
-use Rattle.replica.specs.declared.roles.fault.NodeFault.TheVariants as fault
-use Rattle.serving.specs.Making.{calls_of}
-use Rattle.serving.specs.Nodes.{Fate}
+use Rattle.serving.specs.{Making.calls_of, Nodes.Fate, Telling.run_of}
 use Rattle.serving.specs.Serving.{Act, Called, Pushed, Answered, Service, served}
-use Rattle.serving.specs.Telling.{run_of}
-use Rattle.serving.specs.declared.request.Request.{Request}
+use Rattle.serving.specs.declared.request.Request.{Request, TheVariants.Ticked}
 use Rattle.serving.specs.declared.request.Request.TheVariants.{Heard, Lagging, Learned, Entered}
-use Rattle.serving.specs.declared.request.Request.TheVariants.{Asked, Printed, Ticked, Stopped}
-use Rattle.serving.specs.declared.request.Request.TheVariants.{Inspected, Copied, Strange, Ignored}
-use Rattle.serving.specs.declared.request.Request.TheVariants.{Denied, Withheld}
 use Rattle.serving.specs.declared.request.DecidedRun.{DecidedRun}
 use Rattle.store.specs.declared.home.Home.{Home}
+use Rattle.replica.specs.declared.roles.fault.NodeFault.TheVariants as fault
 
 -- the messages that the calls among these acts handed out, in order
 abbrev pub handed : List Act → List Message
@@ -50,12 +43,8 @@ runs_pushed (Answered run ∷ acts) = run ∷ runs_pushed acts
 
 -- a call's answer says that the desk is down
 abbrev pub says_down : Result (List Message) NodeFault → Bool
-says_down (Ok ms) = false
 says_down (Err fault.Down) = true
-says_down (Err fault.Busy) = false
-says_down (Err fault.LogFull) = false
-says_down (Err fault.BallotsSpent) = false
-says_down (Err fault.NoMemory) = false
+says_down _ = false
 
 -- what was done after the first call that said so
 abbrev pub after_down : List Act → List Act
@@ -69,23 +58,11 @@ after_down (Answered run ∷ acts) = after_down acts
 -- how many acts at the front are left out: of a frame of several Decided entries, the calls for all
 -- entries but the last
 abbrev pub left_out : Request → ℕ
-left_out (Heard m) = 0
-left_out (Lagging m) = 0
 left_out (Learned run) = length run.entries - 1
-left_out (Entered e) = 0
-left_out (Asked id) = 0
-left_out (Printed event round position style) = 0
-left_out Ticked = 0
-left_out Stopped = 0
-left_out (Inspected differs) = 0
-left_out (Copied position) = 0
-left_out Strange = 0
-left_out Ignored = 0
-left_out Denied = 0
-left_out Withheld = 0
+left_out _ = 0
 
--- what is to be pushed: all that the calls hand out, to other desks and to the desk itself, in order,
--- but for what is left out
+-- what is to be pushed: all that the calls hand out, to other desks and to the desk itself, in
+-- order, but for what is left out
 abbrev pub due : Request → List Act → List Message
 due r acts = handed (drop (left_out r) acts)
 
@@ -102,8 +79,7 @@ pub record ArePushed (r : Request) (s : Service) : Type 0 where
 
 abbrev pub MessagesArePushed : Type 0
 MessagesArePushed =
-    (home : Home) (x : Seen) (fates : List Fate) (r : Request)
-    → ArePushed r (served home x fates r)
+    (home : Home) (x : Seen) (fates : List Fate) (r : Request) → ArePushed r (served home x fates r)
 
 -- ---- which of it as a run
 
@@ -114,20 +90,8 @@ as_list (Some run) = run ∷ []
 -- a desk that says how long its log is may be answered by a run, made of what the first call hands
 -- out; no other request is
 abbrev pub runs_due : Home → Request → List Act → List DecidedRun
-runs_due home (Heard m) acts = []
 runs_due home (Lagging m) acts = as_list (run_of home.desk (handed (take 1 acts)))
-runs_due home (Learned run) acts = []
-runs_due home (Entered e) acts = []
-runs_due home (Asked id) acts = []
-runs_due home (Printed event round position style) acts = []
-runs_due home Ticked acts = []
-runs_due home Stopped acts = []
-runs_due home (Inspected differs) acts = []
-runs_due home (Copied position) acts = []
-runs_due home Strange acts = []
-runs_due home Ignored acts = []
-runs_due home Denied acts = []
-runs_due home Withheld acts = []
+runs_due home _ acts = []
 
 -- these runs are pushed, and no others; all else is pushed message by message
 abbrev pub RunsAreDue : Type 0
@@ -143,16 +107,8 @@ asks_for (Heard m) = delivers (Heard m)
 asks_for (Lagging m) = delivers (Lagging m)
 asks_for (Learned run) = delivers (Learned run)
 asks_for (Entered e) = Submit e ∷ []
-asks_for (Asked id) = []
-asks_for (Printed event round position style) = []
 asks_for Ticked = Tick ∷ []
-asks_for Stopped = []
-asks_for (Inspected differs) = []
-asks_for (Copied position) = []
-asks_for Strange = []
-asks_for Ignored = []
-asks_for Denied = []
-asks_for Withheld = []
+asks_for _ = []
 
 -- The first acts are calls with the events that the request asks for, one each, in order; where the
 -- desk goes down, the events that are left are dropped. So what is left out for a frame of several

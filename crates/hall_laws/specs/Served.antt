@@ -1,27 +1,19 @@
 -- What the calls of served frames come to in the world, and of which log a sheet that was written
 -- is (the project's own).
-use Rattle.std.specs.Prelude.{◌≡◌, ◌≤◌, ℕ, List, [], ◌∷◌, ◌++◌, length, Some, Result, Ok}
-use Rattle.std.specs.Prelude.{Err}
+use Rattle.std.specs.Prelude.{◌≡◌, ◌≤◌, ℕ, List, [], ◌∷◌, ◌++◌, length, Some, Result, Ok, Err}
 use Rattle.acceptor.specs.declared.message.Message.{Message}
 use Rattle.formats.specs.declared.events.Event.{Event as EventOf}
-use Rattle.learner.specs.declared.event.DeskEvent.{DeskEvent}
-use Rattle.learner.specs.declared.event.DeskEvent.TheVariants.{Submit, Start, Tick, Deliver}
-use Rattle.learner.specs.Steps.{IsDesk}
-use Rattle.learner.specs.Worlds.{World, nth_sent}
-use Rattle.replica.specs.Handles.{Handles}
-use Rattle.replica.specs.Nodes.{NodeValue}
+use Rattle.learner.specs.declared.event.DeskEvent.{DeskEvent, TheVariants.Deliver}
+use Rattle.learner.specs.{Steps.IsDesk, Worlds.World, Worlds.nth_sent}
+use Rattle.replica.specs.{Handles.Handles, Nodes.NodeValue}
 use Rattle.hall_laws.specs.Stops.{Happening, real_run, with_desk}
 use Rattle.serving.specs.Making.{Call, Lead}
-use Rattle.answers.specs.Seen.{Seen}
-use Rattle.serving.specs.Nodes.{Fate}
-use Rattle.serving.specs.Serving.{answer}
-use Rattle.serving.specs.declared.request.Request.TheVariants.{Printed}
-use Rattle.store.specs.declared.home.Home.{Home}
-use Rattle.store.specs.declared.keeper.Keeper.{Ghosts}
-use Rattle.wire.specs.declared.frame.FrameBody.TheVariants as what
+use Rattle.answers.specs.{Seen.Seen, Answers.sheet_at}
+use Rattle.serving.specs.{Nodes.Fate, Serving.answer, declared.request.Request.TheVariants.Printed}
+use Rattle.store.specs.declared.{home.Home.Home, keeper.Keeper.Ghosts}
 use Rattle.formats.specs.declared.styles.SheetStyle.{SheetStyle as Style}
-use Rattle.answers.specs.Answers.{sheet_at}
 use Rattle.replica.specs.declared.roles.fault.NodeFault.{NodeFault}
+use Rattle.wire.specs.declared.frame.FrameBody.TheVariants as what
 
 -- the messages that an answer hands out
 abbrev pub handed_out : Result (List Message) NodeFault → List Message
@@ -34,16 +26,13 @@ all_handed_out (c ∷ cs) = handed_out c.answer ++ all_handed_out cs
 
 -- a message that comes to desk d is among those sent, and is for it
 abbrev pub IsSentTo : ℕ → List Message → DeskEvent → Type 0
-IsSentTo d sent (Submit e) = Unit {0}
-IsSentTo d sent Start = Unit {0}
-IsSentTo d sent Tick = Unit {0}
 IsSentTo d sent (Deliver m) = (k : ℕ) × (nth_sent sent k ≡ Some m) × (m.to ≡ d)
+IsSentTo d sent _ = Unit {0}
 
 -- so is each that comes in these calls: it was sent before them, or handed out by an earlier one
 abbrev pub AreSentTo : ℕ → List Message → List Call → Type 0
 AreSentTo d sent [] = Unit {0}
-AreSentTo d sent (c ∷ cs) =
-    IsSentTo d sent c.event × AreSentTo d (sent ++ handed_out c.answer) cs
+AreSentTo d sent (c ∷ cs) = IsSentTo d sent c.event × AreSentTo d (sent ++ handed_out c.answer) cs
 
 -- the node is desk d of n, and knows what that desk knows in the world
 pub record StandsFor {K : Type 0} (k : Ghosts K) (n d : ℕ) (w : World)
@@ -60,8 +49,7 @@ abbrev pub CallsAreARun : {K : Type 0} → Ghosts K → Type 0
 CallsAreARun {K} k =
     (n d : ℕ) (w : World) (calls : List Call) (x y : NodeValue K)
     → StandsFor k n d w x → AreSentTo d w.sent calls → Lead (Handles k) x calls y
-    → (hs : List Happening)
-    × (with_desk w d y.desk (all_handed_out calls) ≡ real_run n w hs)
+    → (hs : List Happening) × (with_desk w d y.desk (all_handed_out calls) ≡ real_run n w hs)
 
 -- A sheet that is answered for a position is the Regulations' sheet for the accepted commands of
 -- the desk's log up to there, and the log is that long.
@@ -70,5 +58,4 @@ SheetsAreOfTheLog =
     (home : Home) (x : Seen) (fates : List Fate) (event : EventOf) (round position : ℕ)
     (style : Style) (text : List ℕ)
     → answer home x fates (Printed event round position style) ≡ Some (what.SheetText text)
-    → (position ≤ length x.desk.log)
-    × (sheet_at style x.desk.log position event round ≡ Some text)
+    → (position ≤ length x.desk.log) × (sheet_at style x.desk.log position event round ≡ Some text)

@@ -1,29 +1,20 @@
 -- Desks that stop, or whose save fails, in the middle of a call (the project's own).
 use Rattle.std.specs.Prelude.{ℕ, ◌≡◌, ◌⊎◌, Bool, true, false, List, [], ◌∷◌, ◌++◌, Option, Some}
 use Rattle.std.specs.Prelude.{None, Ok, Err, IfOk, slice_get, take}
-use Rattle.acceptor.specs.declared.entry.Entry.{Entry}
-use Rattle.acceptor.specs.declared.message.Message.{Message}
+use Rattle.acceptor.specs.declared.{entry.Entry.Entry, message.Message.Message}
 use Rattle.acceptor.specs.declared.stored.Stored.{Stored}
-use Rattle.learner.specs.declared.event.DeskEvent.{DeskEvent}
+use Rattle.learner.specs.{declared.event.DeskEvent.DeskEvent, Laws.IsPrefix, Submitted.IsTaken}
 use Rattle.learner.specs.declared.event.DeskEvent.TheVariants.{Submit, Start, Tick, Deliver}
-use Rattle.learner.specs.declared.event.WorldEvent.{WorldEvent}
-use Rattle.learner.specs.declared.event.WorldEvent.TheVariants.{Submit as SubmitAt}
+use Rattle.learner.specs.declared.event.WorldEvent.{WorldEvent, TheVariants.Submit as SubmitAt}
 use Rattle.learner.specs.declared.event.WorldEvent.TheVariants.{Start as StartAt, Tick as TickAt}
-use Rattle.learner.specs.declared.event.WorldEvent.TheVariants.{Deliver as DeliverNth}
-use Rattle.learner.specs.declared.event.WorldEvent.TheVariants.{Restart as RestartAt}
-use Rattle.learner.specs.Laws.{IsPrefix}
-use Rattle.learner.specs.Submitted.{IsTaken}
-use Rattle.learner.specs.Desks.{Desk}
+use Rattle.learner.specs.{declared.event.WorldEvent.TheVariants.Deliver as DeliverNth, Desks.Desk}
+use Rattle.learner.specs.{declared.event.WorldEvent.TheVariants.Restart as RestartAt, Worlds.after}
 use Rattle.learner.specs.Steps.{IsDesk, step}
 use Rattle.learner.specs.Worlds.{World, new_world, put, at_desk, nth_sent, restart_at, happens, run}
-use Rattle.learner.specs.Worlds.{after}
-use Rattle.replica.specs.declared.roles.fault.NodeFault.{NodeFault}
-use Rattle.replica.specs.declared.roles.fault.NodeFault.TheVariants.{Down}
-use Rattle.replica.specs.Nodes.{NodeValue}
+use Rattle.replica.specs.declared.roles.fault.NodeFault.{NodeFault, TheVariants.Down}
+use Rattle.replica.specs.{Nodes.NodeValue, Opens.Opens, roles.Opening.opened}
 use Rattle.store.specs.declared.keeper.Keeper.{Ghosts}
 use Rattle.replica.specs.Handles.{Takes, Handles}
-use Rattle.replica.specs.Opens.{Opens}
-use Rattle.replica.specs.roles.Opening.{opened}
 
 -- What happens among real desks: a call that is answered; or one in which its desk stops, or a save
 -- fails, with the change in the store or without it. Such a desk hands nothing out, and does
@@ -60,6 +51,25 @@ goes_on n w (Stopped stored e) = stopped n w stored e
 abbrev pub real_run : ℕ → World → List Happening → World
 real_run n w [] = w
 real_run n w (h ∷ hs) = real_run n (goes_on n w h) hs
+
+-- The state after these steps, each of which has the state after it.
+abbrev pub state_after : {S Step : Type 0} → (Step → S) → S → List Step → S
+state_after after h [] = h
+state_after after h (s ∷ ss) = state_after after (after s) ss
+
+-- each step leads from the state before it
+abbrev pub AreTaken : {S Step : Type 0} → (Step → S) → (S → Step → Type 0) → S → List Step → Type 0
+AreTaken after goes h [] = Unit {0}
+AreTaken after goes h (s ∷ ss) = goes h s × AreTaken after goes (after s) ss
+
+-- the state is as the world, at first and after each step, where each step is these happenings
+abbrev pub AreMoments : {S Step : Type 0} → (Step → S) → (S → World → Type 0) → ℕ → S → World
+    → List Step → List (List Happening) → Type 0
+AreMoments after is n h w [] [] = is h w
+AreMoments after is n h w [] (hs ∷ rest) = ⊥
+AreMoments after is n h w (s ∷ ss) [] = ⊥
+AreMoments after is n h w (s ∷ ss) (hs ∷ rest) =
+    is h w × AreMoments after is n (after s) (real_run n w hs) ss rest
 
 abbrev pub IsAmong : Message → List Message → Type 0
 IsAmong m [] = ⊥
@@ -112,9 +122,7 @@ KeepsStep n real world (h ∷ hs) (e ∷ there) =
 -- moment of the world
 pub record IsRun (n : ℕ) (hs : List Happening) (there : List WorldEvent) : Type 0 where
   pub steps : KeepsStep n new_world new_world hs there
-  pub moments : (i : ℕ)
-      → (m : ℕ)
-      × Follows (real_run n new_world (take i hs))
+  pub moments : (i : ℕ) → (m : ℕ) × Follows (real_run n new_world (take i hs))
       (after n (take m (events_of n new_world hs there)))
 
 -- desks that stop and fail anywhere make a run of the world
@@ -128,8 +136,7 @@ real_log n hs i d = ((real_run n new_world (take i hs)).desks d).log
 -- of the logs of any two real desks at any two moments one is a prefix of the other
 abbrev pub RealLogsAgree : Type 0
 RealLogsAgree =
-    (n : ℕ) (hs : List Happening) (i j d k : ℕ)
-    → IsPrefix (real_log n hs i d) (real_log n hs j k)
+    (n : ℕ) (hs : List Happening) (i j d k : ℕ) → IsPrefix (real_log n hs i d) (real_log n hs j k)
     ⊎ IsPrefix (real_log n hs j k) (real_log n hs i d)
 
 -- The entry was submitted to a desk that accepted it, by a call that was answered. An entry whose
@@ -196,13 +203,11 @@ with_desk w d x messages = record { desks = put w.desks d x; sent = w.sent ++ me
 pub record CallsAreHappenings {K : Type 0} (k : Ghosts K) : Type 0 where
   -- a call that is answered Ok is its event
   pub answered : (n d : ℕ) (w : World) (e : WorldEvent) (event : DeskEvent) (old new : NodeValue K)
-      (messages : List Message)
-      → IsNext k n d w e event old → Handles k old event (Ok messages) new
+      (messages : List Message) → IsNext k n d w e event old → Handles k old event (Ok messages) new
       → with_desk w d new.desk messages ≡ goes_on n w (Answered e)
   -- a call that is refused leaves the world as it was
   pub refused : (n d : ℕ) (w : World) (e : WorldEvent) (event : DeskEvent) (old new : NodeValue K)
-      (fault : NodeFault)
-      → IsNext k n d w e event old → Handles k old event (Err fault) new
+      (fault : NodeFault) → IsNext k n d w e event old → Handles k old event (Err fault) new
       → with_desk w d new.desk [] ≡ w
   -- A call that is answered Down, and then an opening of what the store may hold, is a stopped call
   -- with its change in the store or without it.

@@ -4,24 +4,18 @@
 use Rattle.std.specs.Prelude.{◌≡◌, ℕ, List, [], ◌∷◌, None, Some, slice_get, take}
 use Rattle.acceptor.specs.Storing.{first_stored}
 use Rattle.learner.specs.Chosen.{Has, IsMajority}
-use Rattle.learner.specs.Desks.{Desk}
-use Rattle.learner.specs.Worlds.{after}
-use Rattle.learner.specs.declared.event.WorldEvent.{WorldEvent}
-use Rattle.progress.specs.Progress.{CanDecide, HasRoom}
-use Rattle.progress.specs.Tangle.{ballot, entry, these}
-use Rattle.progress.specs.Turns.{HasTurnRoom}
-use Rattle.proposer.specs.declared.role.Role.TheVariants.{Gathering, Proposing}
+use Rattle.learner.specs.{Desks.Desk, Worlds.after, declared.event.WorldEvent.WorldEvent}
+use Rattle.progress.specs.{Progress.CanDecide, Progress.HasRoom, Turns.HasTurnRoom}
+use Rattle.progress.specs.Tangle.{ballot, entry, these, outbid_desk}
+use Rattle.proposer.specs.declared.role.Role.TheVariants.{Gathering}
 use Rattle.serving.specs.Serving.{Act}
-use Rattle.wire.specs.declared.frame.Frame.{Frame}
-use Rattle.wire.specs.declared.frame.FrameBody.TheVariants as what
-use Rattle.wire.specs.declared.values.Version.TheVariants.{Two}
-use Rattle.hall_laws.specs.HallExample.{third_home, three_desks}
-use Rattle.hall_laws.specs.HallGoing.{as_it_goes, own_tick}
+use Rattle.wire.specs.declared.{frame.Frame.Frame, values.Version.TheVariants.Two}
+use Rattle.hall_laws.specs.{HallExample.third_home, HallExample.three_desks, HallGoing.as_it_goes}
+use Rattle.hall_laws.specs.{HallGoing.own_tick, HallRuns.StopsInSave, Memory.Memory, Memory.memory}
+use Rattle.hall_laws.specs.HallRuns.{hall_after, CutAt, Hall, HallStep, IsHallRun, IsOpened}
 use Rattle.hall_laws.specs.HallProgress.{ComesTo, world_of}
-use Rattle.hall_laws.specs.HallRuns.{CutAt, Hall, HallStep, IsHallRun, IsOpened, StopsInSave}
-use Rattle.hall_laws.specs.HallRuns.{hall_after}
 use Rattle.hall_laws.specs.HallServing.{CanServe, HallDecides}
-use Rattle.hall_laws.specs.Memory.{Memory, memory}
+use Rattle.wire.specs.declared.frame.FrameBody.TheVariants as what
 
 -- three desks over keepers that never fail, before anything
 abbrev pub first_hall : Hall Memory
@@ -50,20 +44,6 @@ rival_desk = record {
   log = [];
   role = Gathering (ballot 2 2) 0 [];
   queue = entry 8 ∷ [];
-  seen = 0;
-}
-
--- It asks for votes for its ballot still, has promised the rival's, and has an old vote.
-abbrev pub outbid_desk : Desk
-outbid_desk = record {
-  stored = record {
-    promised = ballot 2 2;
-    vote = Some (record { pos = 0; ballot = ballot 1 3; entry = entry 7 });
-    tried = 1;
-  };
-  log = [];
-  role = Proposing (ballot 1 3) 0 (entry 7) [];
-  queue = entry 7 ∷ [];
   seen = 0;
 }
 

@@ -4,10 +4,8 @@ ghost use Rattle.hall_laws.specs.HallRuns.{HallsAreRuns, HallLogsAgree, HallEntr
 ghost use Rattle.hall_laws.specs.HallRuns.{HallMessagesAreNamed, HallSheetsAreOfLogs};
 ghost use Rattle.hall_laws.specs.HallRuns.{HallAnswersWait, HallSheetsAgree, TurnsAreEvents};
 ghost use Rattle.hall_laws.specs.HallRuns.{OwnTicksAreEvents, SettlingsAreEvents};
-ghost use Rattle.hall_laws.specs.HallExample.{SmallRunIsARun};
-ghost use Rattle.hall_laws.specs.HallProgress.{HallsAreNotStuck};
-ghost use Rattle.hall_laws.specs.Losses.{LossesAreNothing};
-ghost use Rattle.hall_laws.specs.Lost.{LostWorkIsNothing};
+ghost use Rattle.hall_laws.specs.{HallExample.SmallRunIsARun, HallProgress.HallsAreNotStuck};
+ghost use Rattle.hall_laws.specs.{Losses.LossesAreNothing, Lost.LostWorkIsNothing};
 
 use crate::own_messages::own_messages_were_sent;
 use crate::served::sheets_are_of_the_log;

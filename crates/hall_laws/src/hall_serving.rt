@@ -1,7 +1,6 @@
 //! What a majority of desks that serve decides by itself.
 
-ghost use Rattle.hall_laws.specs.HallServing.{ServingDecides};
-ghost use Rattle.hall_laws.specs.Tangle.{TangleIsDecided};
+ghost use Rattle.hall_laws.specs.{HallServing.ServingDecides, Tangle.TangleIsDecided};
 
 use crate::stops::{calls_are_happenings, stops_make_a_run};
 use progress::laws::{no_desk_is_stuck, no_serving_desk_is_stuck};

@@ -11,8 +11,7 @@ begins asked more told = told
 
 -- what is told of one more
 pub goes_on : (asked others : List AskedDesk) (one : AskedDesk) (before : List PolledDesk)
-    (told : PolledDesk)
-    → Begins asked (one ∷ others) before → IsTold one told
+    (told : PolledDesk) → Begins asked (one ∷ others) before → IsTold one told
     → Begins asked others (before ++ told ∷ [])
 goes_on asked others one before told begun is more rest =
     subst (AreTold asked) (sym (append_assoc before (told ∷ []) more))

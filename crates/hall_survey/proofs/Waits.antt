@@ -1,11 +1,9 @@
 -- The least of the waits of several desks, met one after the other.
 use Rattle.std.proofs.Common.{◌≡◌, ◌<◌, ◌≤◌, ◌+◌, ◌∙◌, add-one, ap, arith, drop, get_or, length}
 use Rattle.std.proofs.Common.{min, refl, subst, suc, sym, ℕ, List, [], ◌∷◌}
-use Rattle.std.proofs.Math.Seq.{drop-cons}
-use Rattle.std.proofs.lemmas.List.{drop_all}
+use Rattle.std.proofs.{Math.Seq.drop-cons, lemmas.List.drop_all}
 use Rattle.desk_talks.specs.KeptConnections.{wait_of}
-use Rattle.hall_survey.specs.Halls.{least_of, waits_of}
-use Rattle.hall_survey.specs.declared.asked.AskedDesk.{AskedDesk}
+use Rattle.hall_survey.specs.{Halls.least_of, Halls.waits_of, declared.asked.AskedDesk.AskedDesk}
 
 -- the least of them does not depend on their order
 min_more : (a b c : ℕ) → min a (min b c) ≡ min b (min a c)
@@ -18,8 +16,7 @@ least_more n most (m ∷ ns) =
 
 -- one more is met, the one at this place
 pub goes_on : (asked : List AskedDesk) (now place wait all : ℕ) (one : AskedDesk)
-    → place < length asked
-    → one ≡ get_or asked place one
+    → place < length asked → one ≡ get_or asked place one
     → least_of wait (waits_of (drop place asked) now) ≡ all
     → least_of (min (wait_of one.survey.line now) wait) (waits_of (drop (place + 1) asked) now)
     ≡ all

@@ -1,22 +1,16 @@
 -- The desks of a hall, and what is said of them (the project's own).
 use Rattle.std.specs.Prelude.{◌≡◌, ◌≢◌, ℕ, ◌-◌, List, [], ◌∷◌, ◌++◌, length, if◌then◌else◌, nat_le}
-use Rattle.std.specs.Prelude.{codes, decimal}
-use Rattle.std.specs.Prelude.{Bool, true, false, flat_map, map, min, slice_get, String, Option}
-use Rattle.std.specs.Prelude.{None, Some, ◌==◌}
-use Rattle.std.specs.Global.{Global}
+use Rattle.std.specs.Prelude.{codes, decimal, Bool, true, false, String, Option, None, Some, ◌==◌}
+use Rattle.std.specs.{Prelude.flat_map, Prelude.map, Prelude.min, Prelude.slice_get, Global.Global}
 use Rattle.desk_talks.specs.KeptConnections.{wait_of}
 use Rattle.desk_survey.specs.Surveys.{new_survey, speaks_five}
-use Rattle.desk_survey.specs.declared.survey.Reachability.{Reachability}
-use Rattle.desk_survey.specs.declared.survey.Reachability.TheVariants as contact
-use Rattle.desk_survey.specs.declared.survey.SurveyAnswer.{SurveyAnswer}
-use Rattle.standings.specs.Reports.{json_line}
-use Rattle.standings.specs.Standings.{difference}
+use Rattle.desk_survey.specs.declared.survey.{Reachability.Reachability, SurveyAnswer.SurveyAnswer}
+use Rattle.standings.specs.{Reports.json_line, Standings.difference}
 use Rattle.standings.specs.declared.polled.PolledDesk.{PolledDesk}
-use Rattle.wire.specs.declared.standing.Difference.{Difference}
-use Rattle.wire.specs.declared.values.ClientRefusal.{ClientRefusal}
+use Rattle.wire.specs.declared.{standing.Difference.Difference, values.ClientRefusal.ClientRefusal}
+use Rattle.hall_survey.specs.{declared.asked.AskedDesk.AskedDesk, Told.AreTold}
+use Rattle.desk_survey.specs.declared.survey.Reachability.TheVariants as contact
 use Rattle.wire.specs.declared.values.ClientRefusal.TheVariants as refusal
-use Rattle.hall_survey.specs.declared.asked.AskedDesk.{AskedDesk}
-use Rattle.hall_survey.specs.Told.{AreTold}
 
 -- the number of the hall, and the desks that are asked
 pub record HallDesksOf : Type 0 where
@@ -43,8 +37,7 @@ adds h desk address =
 -- nothing is another one but the survey of the desk at a place
 pub record IsKept (place : ℕ) (old new : HallDesksOf) : Type 0 where
   pub hall : new.hall ≡ old.hall
-  pub others : (other : ℕ) → other ≢ place
-      → slice_get new.asked other ≡ slice_get old.asked other
+  pub others : (other : ℕ) → other ≢ place → slice_get new.asked other ≡ slice_get old.asked other
 
 -- the least of these, and at most that
 abbrev pub least_of : ℕ → List ℕ → ℕ
@@ -82,10 +75,8 @@ says_other refusal.Foreign = true
 says_other _ = false
 
 abbrev pub is_other_by : Reachability → Bool
-is_other_by contact.NotAsked = false
-is_other_by contact.Answers = false
-is_other_by contact.Silent = false
 is_other_by (contact.Refuses why) = says_other why
+is_other_by _ = false
 
 -- a desk says that it is of another hall
 abbrev pub is_other : AskedDesk → Bool

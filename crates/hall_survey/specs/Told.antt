@@ -1,13 +1,11 @@
 -- What is said of the desks that are asked (the project's own).
 use Rattle.std.specs.Prelude.{◌≡◌, ℕ, ⊤, List, [], ◌∷◌, Option, None, Some, string_bytes, ◌++◌}
 use Rattle.desk_survey.specs.Surveys.{SurveyOf}
-use Rattle.desk_survey.specs.declared.survey.Reachability.{Reachability}
-use Rattle.desk_survey.specs.declared.survey.Reachability.TheVariants as contact
-use Rattle.desk_survey.specs.declared.survey.SurveyAnswer.{SurveyAnswer}
-use Rattle.standings.specs.declared.polled.PolledDesk.{PolledDesk}
-use Rattle.standings.specs.declared.polled.StatusReply.{StatusReply}
-use Rattle.standings.specs.declared.polled.StatusReply.TheVariants as reply
+use Rattle.desk_survey.specs.declared.survey.{Reachability.Reachability, SurveyAnswer.SurveyAnswer}
+use Rattle.standings.specs.declared.polled.{PolledDesk.PolledDesk, StatusReply.StatusReply}
 use Rattle.hall_survey.specs.declared.asked.AskedDesk.{AskedDesk}
+use Rattle.desk_survey.specs.declared.survey.Reachability.TheVariants as contact
+use Rattle.standings.specs.declared.polled.StatusReply.TheVariants as reply
 
 -- how a desk is that said so last
 abbrev pub stands_as_told : ℕ → Option SurveyAnswer → StatusReply

@@ -2,9 +2,8 @@
 
 ghost use Rattle.std.specs.Prelude.{◌≡◌, ◌++◌, IfOk, OnOk, flat_map, length};
 ghost use Rattle.hall_survey.specs.Halls.{age_line, age_of, away_one, first_other, is_away};
-ghost use Rattle.hall_survey.specs.Halls.{is_late, is_other, least_of};
-ghost use Rattle.hall_survey.specs.Halls.{one_speaks_five};
-ghost use Rattle.hall_survey.specs.Halls.{says_other, waits_of};
+ghost use Rattle.hall_survey.specs.Halls.{is_late, is_other, least_of, one_speaks_five, says_other};
+ghost use Rattle.hall_survey.specs.Halls.{waits_of};
 ghost use Rattle.hall_survey.specs.Told.{AreTold, IsTold, reply_of, standing_of};
 
 use desk_survey::{Reachability, Survey, SurveyAnswer};

@@ -52,9 +52,9 @@ impl<'a, R: Net + RandomSource> AskedStream<'a, R> {
     pub fn tell<F: Write>(&mut self, faults: &mut F, program: &str)
         ensures desk { self.new.desk ≡ self.old.desk }
         ensures stream { self.new.stream ≡ self.old.stream }
-        ensures told { self.new.told ≡ self.old.stream.now.trouble }
+        ensures told { self.new.told ≡ self.old.stream.now.wire.trouble }
     {
-        let trouble = self.stream.trouble();
+        let trouble = self.stream.wire.key_trouble();
         if trouble == self.told {
             return;
         }

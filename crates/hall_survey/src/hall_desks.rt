@@ -1,8 +1,7 @@
 //! The desks of a hall.
 
 ghost use Rattle.std.specs.Prelude.{◌≡◌, IfOk, OnErr, OnOk, string_bytes};
-ghost use Rattle.hall_survey.specs.Halls.{IsKept, IsStatus, adds, ages_text, away_in};
-ghost use Rattle.hall_survey.specs.Halls.{desks_wait};
+ghost use Rattle.hall_survey.specs.Halls.{IsKept, IsStatus, adds, ages_text, away_in, desks_wait};
 ghost use Rattle.hall_survey.specs.Halls.{Differs, first_other as other_of, no_desks};
 ghost use Rattle.hall_survey.specs.Halls.{one_speaks_five};
 ghost use Rattle.wire.specs.Ranges.{IsDesk};

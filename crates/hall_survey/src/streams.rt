@@ -1,13 +1,13 @@
 //! The connections to the desks that are asked. A crate that drops them has to prove for dozens of
 //! types how each is dropped. So nobody does: they are lent for as long as the program runs.
 
-ghost use Rattle.std.specs.Prelude.{◌≡◌, ◌≤◌, IfOk, length};
-ghost use Rattle.desk_sockets.specs.Streams.{fresh_stream};
+ghost use Rattle.std.specs.Prelude.{◌≡◌, ◌≤◌, IfOk, None, length};
+ghost use Rattle.desk_sockets.specs.{Connections.IsFresh, Keying.keys_of};
 ghost use Rattle.wire.specs.Ranges.{IsDesk};
 
 use crate::asked_stream::AskedStream;
 use crate::hall_desks::HallDesks;
-use desk_sockets::{DeskStream, DialogueStream};
+use desk_sockets::{DeskStream, DialogueStream, SocketConnection, address_of};
 use mio::Registry;
 use pages::TcpBrowsers;
 use polled::sockets::TcpConnector;
@@ -44,12 +44,6 @@ fn printed(alloc: Global, address: SocketAddr) -> Result<String, AllocError> {
     format!(in alloc; "{address}")
 }
 
-/// The address of the desk with this number, if it is known.
-fn address_of(addresses: &[Option<SocketAddr>], desk: u8) -> Option<SocketAddr> {
-    let place = usize::from(desk).checked_sub(1)?;
-    *addresses.get(place)?
-}
-
 /// How many desks a hall with these addresses has, of which there are one to five.
 pub fn count_desks(addresses: &[Option<SocketAddr>]) -> u8
     ensures desk { IsDesk result }
@@ -73,12 +67,12 @@ fn lent<'a, R: Net + RandomSource + Clock + Drop>(
     number: u8,
     hall: Hall<'_>,
 ) -> io::Result<&'a mut DeskStream<'a, R>>
-    ensures { IfOk result (λ s. s.now ≡ fresh_stream hall.entry.key) }
+    ensures { IfOk result (λ s. IsFresh (keys_of hall.entry.key None) s.now.wire) }
 {
-    let copy = Vec::from_slice(alloc, hall.addresses)?;
+    let addresses = Vec::from_slice(alloc, hall.addresses)?;
     let connector = TcpConnector::new(rt, registry.try_clone()?);
-    let stream = DialogueStream::new(connector, alloc, number, copy, hall.key);
-    let kept = Box::new(alloc, stream)?;
+    let wire = SocketConnection::new(connector, alloc, number, hall.key);
+    let kept = Box::new(alloc, DialogueStream { wire, addresses })?;
     Ok(Box::leak(kept))
 }
 
@@ -134,7 +128,7 @@ pub fn lent_stream<'a, R: Net + RandomSource + Clock + Drop>(
     number: u8,
     hall: Hall<'_>,
 ) -> io::Result<&'a mut DeskStream<'a, R>>
-    ensures { IfOk result (λ s. s.now ≡ fresh_stream hall.entry.key) }
+    ensures { IfOk result (λ s. IsFresh (keys_of hall.entry.key None) s.now.wire) }
 {
     let registry = browsers.sockets().registry()?;
     lent(rt, alloc, &registry, number, hall)

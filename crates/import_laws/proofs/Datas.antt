@@ -1,29 +1,20 @@
 -- The value that a competition's file is read as.
-use Rattle.std.proofs.Common.{refl, ℕ, ◌+◌, ◌<◌, ◌≤◌, ◌^◌, arith, List, [], ◌∷◌, ◌++◌}
-use Rattle.std.proofs.Common.{map, length, decimal, codes, Option, Some, None}
-use Rattle.std.specs.List.{AllByRecursion}
-use Rattle.std.specs.Str.{IsUtf8}
-use Rattle.std.proofs.lemmas.Fmt.{IsAscii-decimal}
-use Rattle.std.proofs.lemmas.Str.{IsUtf8-from_ascii, IsUtf8-append}
-use Rattle.json.specs.Json as json
-use Rattle.json.specs.Value.{items_of}
-use Rattle.json.proofs.Printed.Utf8.{IsUtf8-are_ascii}
-use Rattle.serde_json.specs.Data.{Data, null, number, string, array, object}
-use Rattle.serde_json.specs.Data.{no_members, put, unsigned}
+use Rattle.std.proofs.Common.{refl, ℕ, ◌+◌, ◌<◌, ◌≤◌, ◌^◌, arith, List, [], ◌∷◌, ◌++◌, map, length}
+use Rattle.std.proofs.Common.{decimal, codes, Option, Some, None}
+use Rattle.std.specs.{List.AllByRecursion, Str.IsUtf8}
+use Rattle.std.proofs.lemmas.{Fmt.IsAscii-decimal, Str.IsUtf8-from_ascii, Str.IsUtf8-append}
+use Rattle.json.{specs.Value.items_of, proofs.Printed.Utf8.IsUtf8-are_ascii}
+use Rattle.serde_json.specs.Data.{Data, null, number, string, array, object, no_members, put}
+use Rattle.serde_json.specs.Data.{unsigned}
 use Rattle.attempts.specs.declared.Unit.{Unit as Measure}
-use Rattle.attempts.specs.declared.Unit.TheVariants as measure
-use Rattle.formats.specs.declared.advance.Advance.{Advance as Advances}
+use Rattle.formats.specs.declared.{advance.Advance.Advance as Advances, events.Event.Event}
 use Rattle.formats.specs.declared.advance.Advance.TheVariants.{Final, Top, Percent}
-use Rattle.formats.specs.declared.events.Event.{Event}
-use Rattle.formats.specs.declared.events.Event.TheVariants as event
-use Rattle.formats.specs.declared.events.Format.{Format}
-use Rattle.formats.specs.declared.events.Format.TheVariants.{Ao5, Mo3, Bo1, Bo2, Bo3}
+use Rattle.formats.specs.declared.events.Format.{Format, TheVariants.Ao5}
 use Rattle.formats.specs.Events.{event_name, unit_of, attempts_of}
 use Rattle.texts.specs.declared.command.Settings.{Settings}
 use Rattle.import_laws.specs.Competitions.{Status, accepted, pending, deleted, Person, Held}
-use Rattle.import_laws.specs.Competitions.{Competition}
+use Rattle.import_laws.specs.{Competitions.Competition, Held.IsCutoff, Held.IsAdvance}
 use Rattle.import_laws.specs.Held.{IsPerson, IsText, IsNumber, IsRound, IsEvent, IsHeld, IsLimit}
-use Rattle.import_laws.specs.Held.{IsCutoff, IsAdvance}
 use Rattle.import_laws.specs.Spelled.{status_name, text_or_null, whole_or_null, event_id}
 use Rattle.import_laws.specs.Spelled.{registration_json, person_json, format_code, limit_json}
 use Rattle.import_laws.specs.Spelled.{cutoff_json, condition_json, advance_json, round_name}
@@ -31,6 +22,9 @@ use Rattle.import_laws.specs.Spelled.{round_json, rounds_json, event_json, file_
 use Rattle.import_laws.proofs.Values.{Spells, SpellsItems, data_items, spells_null, spells_string}
 use Rattle.import_laws.proofs.Values.{spells_whole, spells_list, spells_object, each_item}
 use Rattle.import_laws.proofs.Values.{one_member, no_more_members, no_more_items, one_item}
+use Rattle.json.specs.Json as json
+use Rattle.attempts.specs.declared.Unit.TheVariants as measure
+use Rattle.formats.specs.declared.events.Event.TheVariants as event
 
 abbrev pub data_list : List Data → Data
 data_list ds = array (data_items ds)
@@ -55,38 +49,21 @@ registration_data p =
 
 abbrev pub person_data : Person → Data
 person_data p =
-    object (put (codes "registration") (registration_data p)
-    (put (codes "registrantId") (number_data p.number)
-    (put (codes "wcaId") (text_data p.wca_id)
-    (put (codes "name") (string p.name)
-    (put (codes "email") (string p.email) no_members)))))
+    object (put (codes "registration") (registration_data p) (put (codes "registrantId")
+    (number_data p.number) (put (codes "wcaId") (text_data p.wca_id)
+    (put (codes "name") (string p.name) (put (codes "email") (string p.email) no_members)))))
 
-spells_text : (o : Option (List ℕ)) (n : ℕ) → IsText o → Spells (text_or_null o) (text_data o) n
-spells_text None n h = spells_null n
-spells_text (Some text) n h = spells_string n text h
+spells_text : {n : ℕ} (o : Option (List ℕ)) → IsText o → Spells (text_or_null o) (text_data o) n
+spells_text None h = spells_null
+spells_text (Some text) h = spells_string h
 
-spells_number : (o : Option ℕ) (n : ℕ) → IsNumber o → Spells (whole_or_null o) (number_data o) n
-spells_number None n h = spells_null n
-spells_number (Some k) n h = spells_whole n k (omega (arith, h))
+spells_number : {n : ℕ} (o : Option ℕ) → IsNumber o → Spells (whole_or_null o) (number_data o) n
+spells_number None h = spells_null
+spells_number (Some k) h = spells_whole k (omega (arith, h))
 
 event_text : (e : Event) → IsUtf8 (event_name e)
 event_text event.Cube3 = IsUtf8-are_ascii _ refl
-event_text event.Cube2 = IsUtf8-are_ascii _ refl
-event_text event.Cube4 = IsUtf8-are_ascii _ refl
-event_text event.Cube5 = IsUtf8-are_ascii _ refl
-event_text event.Cube6 = IsUtf8-are_ascii _ refl
-event_text event.Cube7 = IsUtf8-are_ascii _ refl
-event_text event.Blind3 = IsUtf8-are_ascii _ refl
-event_text event.FewestMoves = IsUtf8-are_ascii _ refl
-event_text event.OneHanded = IsUtf8-are_ascii _ refl
-event_text event.Clock = IsUtf8-are_ascii _ refl
-event_text event.Megaminx = IsUtf8-are_ascii _ refl
-event_text event.Pyraminx = IsUtf8-are_ascii _ refl
-event_text event.Skewb = IsUtf8-are_ascii _ refl
-event_text event.Square1 = IsUtf8-are_ascii _ refl
-event_text event.Blind4 = IsUtf8-are_ascii _ refl
-event_text event.Blind5 = IsUtf8-are_ascii _ refl
-event_text event.MultiBlind = IsUtf8-are_ascii _ refl
+event_text _ = IsUtf8-are_ascii _ refl
 
 status_text : (s : Status) → IsUtf8 (status_name s)
 status_text accepted = IsUtf8-are_ascii _ refl
@@ -103,28 +80,19 @@ nothing (x ∷ xs) = (tt, nothing xs)
 spells_ids : (es : List Event) (n : ℕ)
     → SpellsItems (items_of (map event_id es)) (data_items (map id_data es)) n
 spells_ids es n =
-    each_item event_id id_data Nothing n (λ e h. spells_string n (event_name e) (event_text e)) es
-    (nothing es)
+    each_item event_id id_data Nothing n (λ e h. spells_string (event_text e)) es (nothing es)
 
 spells_registration : (p : Person) → Spells (registration_json p) (registration_data p) 2
 spells_registration p =
-    spells_object _ _ 1
-    (one_member _ _ _ (string (status_name p.status)) _ _ 1 refl
-    (spells_string 1 (status_name p.status) (status_text p.status))
-    (one_member _ _ _ (data_list (map id_data p.events)) _ _ 1 refl
-    (spells_list _ _ 0 (spells_ids p.events 0))
-    (no_more_members _ 1)))
+    spells_object 1 (one_member refl (spells_string (status_text p.status))
+    (one_member refl (spells_list 0 (spells_ids p.events 0)) no_more_members))
 
 pub spells_person : (p : Person) → IsPerson p → Spells (person_json p) (person_data p) 3
 unfolding person_json
 spells_person p h =
-    spells_object _ _ 2
-    (one_member _ _ _ (string p.email) _ _ 2 refl (spells_string 2 p.email h.email)
-    (one_member _ _ _ (string p.name) _ _ 2 refl (spells_string 2 p.name h.name)
-    (one_member _ _ _ (text_data p.wca_id) _ _ 2 refl (spells_text p.wca_id 2 h.wca_id)
-    (one_member _ _ _ (number_data p.number) _ _ 2 refl (spells_number p.number 2 h.number)
-    (one_member _ _ _ (registration_data p) _ _ 2 refl (spells_registration p)
-    (no_more_members _ 2))))))
+    spells_object 2 (one_member refl (spells_string h.email) (one_member refl (spells_string h.name)
+    (one_member refl (spells_text p.wca_id h.wca_id) (one_member refl
+    (spells_number p.number h.number) (one_member refl (spells_registration p) no_more_members)))))
 
 -- A round
 
@@ -152,12 +120,10 @@ advance_data (Percent n) = condition_data (codes "percent") n
 
 abbrev pub round_data : Event → ℕ → Settings → Data
 round_data e n s =
-    object (put (codes "results") (data_list [])
-    (put (codes "advancementCondition") (advance_data s.advance)
-    (put (codes "cutoff") (cutoff_data s.cutoff)
-    (put (codes "timeLimit") (limit_data s.limit)
-    (put (codes "format") (string (format_code s.format))
-    (put (codes "id") (string (round_name e n)) no_members))))))
+    object (put (codes "results") (data_list []) (put (codes "advancementCondition")
+    (advance_data s.advance) (put (codes "cutoff") (cutoff_data s.cutoff)
+    (put (codes "timeLimit") (limit_data s.limit) (put (codes "format")
+    (string (format_code s.format)) (put (codes "id") (string (round_name e n)) no_members))))))
 
 abbrev pub rounds_data : Event → ℕ → List Settings → List Data
 rounds_data e n [] = []
@@ -170,20 +136,15 @@ limit_small measure.Multi limit h = absurd h
 
 spells_limit : (unit : Measure) (o : Option ℕ) → IsLimit unit o
     → Spells (limit_json o) (limit_data o) 2
-spells_limit unit None h = spells_null 2
+spells_limit unit None h = spells_null
 spells_limit unit (Some limit) h =
-    spells_object _ _ 1
-    (one_member _ _ _ (number (unsigned limit)) _ _ 1 refl
-    (spells_whole 1 limit (let small = limit_small unit limit h in omega (arith, small)))
-    (one_member _ _ _ (data_list []) _ _ 1 refl (spells_list _ _ 0 (no_more_items 0))
-    (no_more_members _ 1)))
+    let small = limit_small unit limit h in
+    spells_object 1 (one_member refl (spells_whole limit (omega (arith, small)))
+    (one_member refl (spells_list 0 no_more_items) no_more_members))
 
 attempts_few : (f : Format) → attempts_of f ≤ 5
 attempts_few Ao5 = omega arith
-attempts_few Mo3 = omega arith
-attempts_few Bo1 = omega arith
-attempts_few Bo2 = omega arith
-attempts_few Bo3 = omega arith
+attempts_few _ = omega arith
 
 cutoff_small : (unit : Measure) (f : Format) (c : ℕ × ℕ) → IsCutoff unit f (Some c)
     → (c.0 ≤ 5) × (c.1 ≤ 360000)
@@ -195,27 +156,22 @@ cutoff_small measure.Multi f c h = absurd h
 
 spells_cutoff : (unit : Measure) (f : Format) (o : Option (ℕ × ℕ)) → IsCutoff unit f o
     → Spells (cutoff_json o) (cutoff_data o) 2
-spells_cutoff unit f None h = spells_null 2
+spells_cutoff unit f None h = spells_null
 spells_cutoff unit f (Some c) h =
     let small = cutoff_small unit f c h in
     let first = small.0 in
     let second = small.1 in
-    spells_object _ _ 1
-    (one_member _ _ _ (number (unsigned c.0)) _ _ 1 refl
-    (spells_whole 1 c.0 (omega (arith, first)))
-    (one_member _ _ _ (number (unsigned c.1)) _ _ 1 refl
-    (spells_whole 1 c.1 (omega (arith, second))) (no_more_members _ 1)))
+    spells_object 1 (one_member refl (spells_whole c.0 (omega (arith, first)))
+    (one_member refl (spells_whole c.1 (omega (arith, second))) no_more_members))
 
 spells_condition : (type : List ℕ) (level : ℕ) → IsUtf8 type → level < 2 ^ 64
     → Spells (condition_json type level) (condition_data type level) 2
 spells_condition type level text small =
-    spells_object _ _ 1
-    (one_member _ _ _ (string type) _ _ 1 refl (spells_string 1 type text)
-    (one_member _ _ _ (number (unsigned level)) _ _ 1 refl (spells_whole 1 level small)
-    (no_more_members _ 1)))
+    spells_object 1 (one_member refl (spells_string text)
+    (one_member refl (spells_whole level small) no_more_members))
 
 spells_advance : (a : Advances) → IsAdvance a → Spells (advance_json a) (advance_data a) 2
-spells_advance Final h = spells_null 2
+spells_advance Final h = spells_null
 spells_advance (Top n) h =
     let most = h.1 in
     spells_condition (codes "ranking") n (IsUtf8-are_ascii _ refl) (omega (arith, most))
@@ -225,10 +181,7 @@ spells_advance (Percent n) h =
 
 format_text : (f : Format) → IsUtf8 (format_code f)
 format_text Ao5 = IsUtf8-are_ascii _ refl
-format_text Mo3 = IsUtf8-are_ascii _ refl
-format_text Bo1 = IsUtf8-are_ascii _ refl
-format_text Bo2 = IsUtf8-are_ascii _ refl
-format_text Bo3 = IsUtf8-are_ascii _ refl
+format_text _ = IsUtf8-are_ascii _ refl
 
 name_text : (e : Event) (n : ℕ) → n < 2 ^ 64 → IsUtf8 (round_name e n)
 name_text e n small =
@@ -240,24 +193,19 @@ pub spells_round : (e : Event) (n : ℕ) (s : Settings) → n < 2 ^ 64 → IsRou
     → Spells (round_json e n s) (round_data e n s) 3
 unfolding round_json
 spells_round e n s small h =
-    spells_object _ _ 2
-    (one_member _ _ _ (string (round_name e n)) _ _ 2 refl
-    (spells_string 2 (round_name e n) (name_text e n small))
-    (one_member _ _ _ (string (format_code s.format)) _ _ 2 refl
-    (spells_string 2 (format_code s.format) (format_text s.format))
-    (one_member _ _ _ (limit_data s.limit) _ _ 2 refl (spells_limit (unit_of e) s.limit h.limit)
-    (one_member _ _ _ (cutoff_data s.cutoff) _ _ 2 refl
-    (spells_cutoff (unit_of e) s.format s.cutoff h.cutoff)
-    (one_member _ _ _ (advance_data s.advance) _ _ 2 refl (spells_advance s.advance h.advance)
-    (one_member _ _ _ (data_list []) _ _ 2 refl (spells_list _ _ 1 (no_more_items 1))
-    (no_more_members _ 2)))))))
+    spells_object 2 (one_member refl (spells_string (name_text e n small))
+    (one_member refl (spells_string (format_text s.format)) (one_member refl
+    (spells_limit (unit_of e) s.limit h.limit) (one_member refl
+    (spells_cutoff (unit_of e) s.format s.cutoff h.cutoff) (one_member refl
+    (spells_advance s.advance h.advance)
+    (one_member refl (spells_list 1 no_more_items) no_more_members))))))
 
 spells_rounds : (e : Event) (n : ℕ) (ss : List Settings) → n + length ss < 2 ^ 64
     → AllByRecursion (IsRound e) ss
     → SpellsItems (items_of (rounds_json e n ss)) (data_items (rounds_data e n ss)) 3
-spells_rounds e n [] small h = no_more_items 3
+spells_rounds e n [] small h = no_more_items
 spells_rounds e n (s ∷ ss) small h =
-    one_item _ _ _ _ 3 (spells_round e n s (omega (arith, small)) h.0)
+    one_item (spells_round e n s (omega (arith, small)) h.0)
     (spells_rounds e (n + 1) ss (omega (arith, small)) h.1)
 
 -- An event
@@ -272,20 +220,16 @@ pub spells_event : (ps : List Person) (h : Held) → IsEvent ps h
 unfolding event_json
 spells_event ps h is =
     let most = is.rounds.1 in
-    spells_object _ _ 4
-    (one_member _ _ _ (id_data h.event) _ _ 4 refl
-    (spells_string 4 (event_name h.event) (event_text h.event))
-    (one_member _ _ _ (data_list (rounds_data h.event 1 h.rounds)) _ _ 4 refl
-    (spells_list _ _ 3 (spells_rounds h.event 1 h.rounds (omega (arith, most)) is.each))
-    (no_more_members _ 4)))
+    spells_object 4 (one_member refl (spells_string (event_text h.event)) (one_member refl
+    (spells_list 3 (spells_rounds h.event 1 h.rounds (omega (arith, most)) is.each))
+    no_more_members))
 
 -- The competition
 
 abbrev pub file_data : Competition → Data
 file_data c =
-    object (put (codes "events") (data_list (map event_data c.events))
-    (put (codes "persons") (data_list (map person_data c.persons))
-    (put (codes "name") (string c.name)
+    object (put (codes "events") (data_list (map event_data c.events)) (put (codes "persons")
+    (data_list (map person_data c.persons)) (put (codes "name") (string c.name)
     (put (codes "formatVersion") (string (codes "1.0")) no_members))))
 
 weaker : (j : json.Json) (d : Data) (n m : ℕ) → n ≤ m → Spells j d n → Spells j d m
@@ -300,16 +244,9 @@ weaker j d n m less s = record {
 pub spells_file : (c : Competition) → IsHeld c → Spells (file_json c) (file_data c) 7
 unfolding file_json
 spells_file c h =
-    spells_object _ _ 6
-    (one_member _ _ _ (string (codes "1.0")) _ _ 6 refl
-    (spells_string 6 (codes "1.0") (IsUtf8-are_ascii _ refl))
-    (one_member _ _ _ (string c.name) _ _ 6 refl (spells_string 6 c.name h.name)
-    (one_member _ _ _ (data_list (map person_data c.persons)) _ _ 6 refl
-    (spells_list _ _ 5
+    spells_object 6 (one_member refl (spells_string (IsUtf8-are_ascii _ refl))
+    (one_member refl (spells_string h.name) (one_member refl (spells_list 5
     (each_item person_json person_data IsPerson 5
     (λ p is. weaker _ _ 3 5 (omega arith) (spells_person p is)) c.persons h.persons))
-    (one_member _ _ _ (data_list (map event_data c.events)) _ _ 6 refl
-    (spells_list _ _ 5
-    (each_item event_json event_data (IsEvent c.persons) 5 (spells_event c.persons) c.events
-    h.events))
-    (no_more_members _ 6)))))
+    (one_member refl (spells_list 5 (each_item event_json event_data (IsEvent c.persons) 5
+    (spells_event c.persons) c.events h.events)) no_more_members))))

@@ -1,37 +1,27 @@
 -- Lists: what is told of items, items that are apart, and items that are found.
-use Rattle.std.proofs.Common.{◌≡◌, refl, sym, ap, subst, ◌∙◌, ℕ, ◌+◌, ◌≤◌, arith, Bool, true}
-use Rattle.std.proofs.Common.{false, ◌||◌, ◌&&◌, cond, List, [], ◌∷◌, ◌++◌, map, flat_map}
-use Rattle.std.proofs.Common.{filter, find, Some, append_assoc, bytes_eq}
-use Rattle.std.specs.Prelude.{count_by}
-use Rattle.std.specs.List.{list_any, AllByRecursion}
-use Rattle.std.specs.Option.{option_map}
-use Rattle.std.proofs.lemmas.Bool.{or_parts}
-use Rattle.std.proofs.lemmas.List.{map-append}
-use Rattle.std.proofs.lemmas.List.Folds.{list_any-append}
-use Rattle.std.proofs.lemmas.List.Sums.{sum_by-cons}
-use Rattle.std.proofs.lemmas.Slice.Eq.{bytes_eq-Decides}
+use Rattle.std.proofs.Common.{◌≡◌, refl, sym, ap, ◌∙◌, ℕ, ◌+◌, ◌≤◌, arith, Bool, true, false, ◌||◌}
+use Rattle.std.proofs.Common.{◌&&◌, cond, List, [], ◌∷◌, ◌++◌, map, flat_map, filter, find, Some}
+use Rattle.std.proofs.Common.{append_assoc, bytes_eq}
+use Rattle.std.proofs.lemmas.{Grind.flat_map-append, Bool.or_parts, Slice.Eq.bytes_eq-Decides}
+use Rattle.std.specs.{Prelude.count_by, List.list_any, List.AllByRecursion, Option.option_map}
+use Rattle.std.proofs.lemmas.List.{map-append, Folds.list_any-append, Sums.sum_by-cons}
 use Rattle.wcif.specs.Told.{told, told_from}
 use Rattle.import_laws.specs.Held.{AreApart}
 
 -- Tellings
 
 told_of : {X A B : Type 0} (g : X → A) (f : List A → A → List B) (whole earlier xs : List X)
-    → earlier ++ xs ≡ whole
-    → ((front : List X) (x : X) (back : List X) → front ++ x ∷ back ≡ whole
-    → f (map g front) (g x) ≡ [])
-    → told_from f (map g earlier) (map g xs) ≡ []
+    → earlier ++ xs ≡ whole → ((front : List X) (x : X) (back : List X) → front ++ x ∷ back ≡ whole
+    → f (map g front) (g x) ≡ []) → told_from f (map g earlier) (map g xs) ≡ []
 told_of g f whole earlier [] is nothing = refl
 told_of g f whole earlier (x ∷ xs) is nothing =
-    ap (λ said. said ++ told_from f (map g earlier ++ g x ∷ []) (map g xs))
-    (nothing earlier x xs is)
-    ∙ ap (λ before. told_from f before (map g xs)) (sym (map-append g earlier (x ∷ [])))
-    ∙ told_of g f whole (earlier ++ x ∷ []) xs (append_assoc earlier (x ∷ []) xs ∙ is) nothing
+    rw (nothing earlier x xs is, sym (map-append g earlier (x ∷ [])))
+    (told_of g f whole (earlier ++ x ∷ []) xs (append_assoc earlier (x ∷ []) xs ∙ is) nothing)
 
 -- nothing is told where nothing is told of any item, given those in front
 pub told_nothing : {X A B : Type 0} (g : X → A) (f : List A → A → List B) (whole : List X)
     → ((front : List X) (x : X) (back : List X) → front ++ x ∷ back ≡ whole
-    → f (map g front) (g x) ≡ [])
-    → told f (map g whole) ≡ []
+    → f (map g front) (g x) ≡ []) → told f (map g whole) ≡ []
 unfolding told
 told_nothing g f whole nothing = told_of g f whole [] whole refl nothing
 
@@ -47,10 +37,8 @@ pub apart_front : {A : Type 0} (same : A → A → Bool) → ((a b : A) → same
     → list_any (same x) front ≡ false
 apart_front same swap [] x back h = refl
 apart_front same swap (y ∷ front) x back h =
-    ap (λ b. b || list_any (same x) front)
-    (swap x y
-    ∙ (or_parts (same y x) (list_any (same y) back)
-    (or_parts (list_any (same y) front) _
+    ap (λ b. b || list_any (same x) front) (swap x y
+    ∙ (or_parts (same y x) (list_any (same y) back) (or_parts (list_any (same y) front) _
     (sym (list_any-append (same y) front (x ∷ back)) ∙ h.0)).1).0)
     ∙ apart_front same swap front x back h.1
 
@@ -69,17 +57,14 @@ any_filter {A} t f (x ∷ xs) = step (t x) (any_filter t f xs)
 pub any_mapped : {X A : Type 0} (g : X → A) (p : A → Bool) (q : X → Bool)
     → ((x : X) → p (g x) ≡ q x) → (xs : List X) → list_any p (map g xs) ≡ list_any q xs
 any_mapped g p q alike [] = refl
-any_mapped g p q alike (x ∷ xs) =
-    ap (λ b. b || list_any p (map g xs)) (alike x) ∙ ap (λ b. q x || b) (any_mapped g p q alike xs)
+any_mapped g p q alike (x ∷ xs) = rw (alike x, any_mapped g p q alike xs) refl
 
 pub count_mapped : {X A : Type 0} (g : X → A) (p : A → Bool) (q : X → Bool)
     → ((x : X) → p (g x) ≡ q x) → (xs : List X) → count_by p (map g xs) ≡ count_by q xs
 count_mapped g p q alike [] = refl
 count_mapped g p q alike (x ∷ xs) =
-    sum_by-cons (λ y. cond (p y) 1 0) (g x) (map g xs)
-    ∙ ap (λ b. cond b 1 0 + count_by p (map g xs)) (alike x)
-    ∙ ap (λ n. cond (q x) 1 0 + n) (count_mapped g p q alike xs)
-    ∙ sym (sum_by-cons (λ y. cond (q y) 1 0) x xs)
+    sum_by-cons (λ y. cond (p y) 1 0) (g x) (map g xs) ∙ rw (alike x, count_mapped g p q alike xs)
+    (sym (sum_by-cons (λ y. cond (q y) 1 0) x xs))
 
 pub count_filter : {A : Type 0} (t f : A → Bool) (xs : List A)
     → count_by (λ x. t x && f x) xs ≡ count_by f (filter t xs)
@@ -90,12 +75,10 @@ count_filter {A} t f (x ∷ xs) =
     step : (b : Bool) → count_by (λ y. t y && f y) xs ≡ count_by f (filter t xs)
         → cond (b && f x) 1 0 + count_by (λ y. t y && f y) xs
         ≡ count_by f (cond b (x ∷ filter t xs) (filter t xs))
-    step true later =
-        ap (λ n. cond (f x) 1 0 + n) later ∙ sym (sum_by-cons (λ y. cond (f y) 1 0) x (filter t xs))
+    step true later = rw later (sym (sum_by-cons (λ y. cond (f y) 1 0) x (filter t xs)))
     step false later = omega (arith, later)
 
-count_none : {A : Type 0} (f : A → Bool) (xs : List A) → list_any f xs ≡ false
-    → count_by f xs ≡ 0
+count_none : {A : Type 0} (f : A → Bool) (xs : List A) → list_any f xs ≡ false → count_by f xs ≡ 0
 count_none f [] h = refl
 count_none f (x ∷ xs) h =
     let parts = or_parts (f x) (list_any f xs) h in
@@ -105,21 +88,16 @@ count_none f (x ∷ xs) h =
 
 -- of texts that are apart, one is a text at most
 pub count_apart : {A : Type 0} (key : A → List ℕ) (text : List ℕ) (xs : List A)
-    → AreApart (λ a b. bytes_eq (key a) (key b)) xs
-    → count_by (λ x. bytes_eq text (key x)) xs ≤ 1
+    → AreApart (λ a b. bytes_eq (key a) (key b)) xs → count_by (λ x. bytes_eq text (key x)) xs ≤ 1
 count_apart key text [] h = omega arith
 count_apart {A} key text (x ∷ xs) h =
     step (bytes_eq text (key x)) refl (count_apart key text xs h.1)
   where
-    whole : (b : Bool) → bytes_eq text (key x) ≡ b
-        → count_by (λ y. bytes_eq text (key y)) (x ∷ xs)
+    whole : (b : Bool) → bytes_eq text (key x) ≡ b → count_by (λ y. bytes_eq text (key y)) (x ∷ xs)
         ≡ cond b 1 0 + count_by (λ y. bytes_eq text (key y)) xs
-    whole b is =
-        sum_by-cons (λ y. cond (bytes_eq text (key y)) 1 0) x xs
-        ∙ ap (λ c. cond c 1 0 + count_by (λ y. bytes_eq text (key y)) xs) is
+    whole b is = sum_by-cons (λ y. cond (bytes_eq text (key y)) 1 0) x xs ∙ rw is refl
 
-    step : (b : Bool) → bytes_eq text (key x) ≡ b
-        → count_by (λ y. bytes_eq text (key y)) xs ≤ 1
+    step : (b : Bool) → bytes_eq text (key x) ≡ b → count_by (λ y. bytes_eq text (key y)) xs ≤ 1
         → count_by (λ y. bytes_eq text (key y)) (x ∷ xs) ≤ 1
     step true is later =
         let same : text ≡ key x = (bytes_eq-Decides text (key x)).0 is in
@@ -135,56 +113,30 @@ pub find_mapped : {X A : Type 0} (g : X → A) (p : A → Bool) (t h : X → Boo
     → find p (map g xs) ≡ option_map g (find h (filter t xs))
 find_mapped g p t h alike [] = refl
 find_mapped {X} {A} g p t h alike (x ∷ xs) =
-    ap (λ b. cond b (Some (g x)) (find p (map g xs))) (alike x)
-    ∙ step (t x) (h x) refl (find_mapped g p t h alike xs)
+    rw (alike x) (step (t x) (h x) refl (find_mapped g p t h alike xs))
   where
     step : (b c : Bool) → h x ≡ c → find p (map g xs) ≡ option_map g (find h (filter t xs))
         → cond (b && h x) (Some (g x)) (find p (map g xs))
         ≡ option_map g (find h (cond b (x ∷ filter t xs) (filter t xs)))
-    step true true is later =
-        ap (λ b. cond b (Some (g x)) (find p (map g xs))) is
-        ∙ ap (λ b. option_map g (cond b (Some x) (find h (filter t xs)))) (sym is)
-    step true false is later =
-        ap (λ b. cond b (Some (g x)) (find p (map g xs))) is ∙ later
-        ∙ ap (λ b. option_map g (cond b (Some x) (find h (filter t xs)))) (sym is)
+    step true true is later = rw is refl
+    step true false is later = rw is later
     step false c is later = later
-
-pub found_holds : {A : Type 0} (P : A → Type 0) (p : A → Bool) (xs : List A) (y : A)
-    → AllByRecursion P xs → find p xs ≡ Some y → P y
-found_holds P p [] y h found = absurd (cc)
-found_holds {A} P p (x ∷ xs) y h found = step (p x) found (found_holds P p xs y h.1)
-  where
-    step : (b : Bool) → cond b (Some x) (find p xs) ≡ Some y → (find p xs ≡ Some y → P y) → P y
-    step true is later = let same : x ≡ y = cc in subst P same h.0
-    step false is later = later is
 
 -- Lists that are joined
 
 pub map_flat : {X A B : Type 0} (g : A → B) (f : X → List A) (xs : List X)
     → flat_map (λ x. map g (f x)) xs ≡ map g (flat_map f xs)
 map_flat g f [] = refl
-map_flat g f (x ∷ xs) =
-    ap (λ later. map g (f x) ++ later) (map_flat g f xs)
-    ∙ sym (map-append g (f x) (flat_map f xs))
-
-pub flat_append : {X A : Type 0} (f : X → List A) (xs ys : List X)
-    → flat_map f (xs ++ ys) ≡ flat_map f xs ++ flat_map f ys
-flat_append f [] ys = refl
-flat_append f (x ∷ xs) ys =
-    ap (λ later. f x ++ later) (flat_append f xs ys)
-    ∙ sym (append_assoc (f x) (flat_map f xs) (flat_map f ys))
+map_flat g f (x ∷ xs) = rw (map_flat g f xs) (sym (map-append g (f x) (flat_map f xs)))
 
 pub flat_flat : {X A B : Type 0} (g : A → List B) (f : X → List A) (xs : List X)
     → flat_map (λ x. flat_map g (f x)) xs ≡ flat_map g (flat_map f xs)
 flat_flat g f [] = refl
-flat_flat g f (x ∷ xs) =
-    ap (λ later. flat_map g (f x) ++ later) (flat_flat g f xs)
-    ∙ sym (flat_append g (f x) (flat_map f xs))
+flat_flat g f (x ∷ xs) = rw (flat_flat g f xs) (sym (flat_map-append g (f x) (flat_map f xs)))
 
 pub flat_mapped : {X A B : Type 0} (g : X → A) (f : A → List B) (h : X → List B)
     (P : X → Type 0) → ((x : X) → P x → f (g x) ≡ h x) → (xs : List X) → AllByRecursion P xs
     → flat_map f (map g xs) ≡ flat_map h xs
 flat_mapped g f h P alike [] are = refl
 flat_mapped g f h P alike (x ∷ xs) are =
-    ap (λ first. first ++ flat_map f (map g xs)) (alike x are.0)
-    ∙ ap (λ later. h x ++ later) (flat_mapped g f h P alike xs are.1)
+    rw (alike x are.0, flat_mapped g f h P alike xs are.1) refl

@@ -1,15 +1,11 @@
 -- Whoever has each number, one number after the other, are the persons in the order of the numbers.
 use Rattle.std.proofs.Common.{◌≡◌, refl, sym, ap, ◌∙◌, ℕ, zero, suc, ◌+◌, ◌<◌, ◌≤◌, arith, Bool}
-use Rattle.std.proofs.Common.{true}
-use Rattle.std.proofs.Common.{false, ◌==◌, cond, List, [], ◌∷◌, ◌++◌, flat_map, find, Option, Some}
-use Rattle.std.proofs.Common.{None, nat_lt, eqb-true}
-use Rattle.std.specs.Prelude.{option_to_list}
+use Rattle.std.proofs.Common.{true, false, ◌==◌, cond, List, [], ◌∷◌, ◌++◌, flat_map, find, Option}
+use Rattle.std.proofs.Common.{Some, None, nat_lt, eqb-true}
+use Rattle.std.{specs.Prelude.option_to_list, proofs.lemmas.Bool.Decides.nat_tests}
 use Rattle.std.specs.List.{list_any, range_with_len, AllByRecursion}
-use Rattle.std.proofs.lemmas.Bool.Decides.{nat_tests}
-use Rattle.wcif.specs.Commands.{numbers_to}
-use Rattle.wcif.proofs.Found.{found_none, found_passes}
-use Rattle.import_laws.specs.Competitions.{Person}
-use Rattle.import_laws.specs.Held.{AreApart, same_number, IsWithin}
+use Rattle.wcif.{specs.Commands.numbers_to, proofs.Found.found_none, proofs.Found.found_passes}
+use Rattle.import_laws.specs.{Competitions.Person, Held.AreApart, Held.same_number, Held.IsWithin}
 use Rattle.import_laws.specs.SetUp.{number_of, put_in, by_number}
 
 -- whoever has the number
@@ -24,12 +20,7 @@ numbers_are last = refl
 met_before : (q : Person) (qs : List Person) (a n : ℕ) → number_of q < a
     → flat_map (who_at (q ∷ qs)) (range_with_len a n) ≡ flat_map (who_at qs) (range_with_len a n)
 met_before q qs a zero h = refl
-met_before q qs a (suc n) h =
-    ap
-    (λ b. option_to_list (cond b (Some q) (find (λ r. a == number_of r) qs))
-    ++ flat_map (who_at (q ∷ qs)) (range_with_len (a + 1) n))
-    other
-    ∙ ap (λ later. who_at qs a ++ later) (met_before q qs (a + 1) n (omega (arith, h)))
+met_before q qs a (suc n) h = rw (other, met_before q qs (a + 1) n (omega (arith, h))) refl
   where
     other : (a == number_of q) ≡ false
     other = grind (arith, nat_tests)
@@ -52,15 +43,11 @@ put_first q qs a (suc n) h =
         let same : a ≡ number_of r =
         eqb-true a (number_of r) (found_passes (λ s. a == number_of s) qs r is) in
         let less : nat_lt (number_of q) (number_of r) ≡ true = grind (arith, nat_tests) in
-        ap
-        (λ b. cond b (q ∷ r ∷ flat_map (who_at qs) (range_with_len (a + 1) n))
-        (r ∷ put_in q (flat_map (who_at qs) (range_with_len (a + 1) n))))
-        less
+        rw less refl
 
 -- one more person is put in by the number
 inserted : (q : Person) (qs : List Person) → list_any (same_number q) qs ≡ false → (a n : ℕ)
-    → a ≤ number_of q → number_of q < a + n
-    → flat_map (who_at (q ∷ qs)) (range_with_len a n)
+    → a ≤ number_of q → number_of q < a + n → flat_map (who_at (q ∷ qs)) (range_with_len a n)
     ≡ put_in q (flat_map (who_at qs) (range_with_len a n))
 inserted q qs own a zero low high = absurd (omega (arith, low, high))
 inserted q qs own a (suc n) low high =
@@ -87,16 +74,13 @@ inserted q qs own a (suc n) low high =
         ≡ put_in q (who_at qs a ++ rest)
     step true is later =
         let same : a ≡ number_of q = eqb-true a (number_of q) is in
-        let none : find (λ r. a == number_of r) qs ≡ None =
-        found_none (λ r. a == number_of r) qs
+        let none : find (λ r. a == number_of r) qs ≡ None = found_none (λ r. a == number_of r) qs
         (ap (λ k. list_any (λ r. k == number_of r) qs) same ∙ own) in
-        ap (λ others. q ∷ others) (met_before q qs (a + 1) n (omega (arith, same)))
-        ∙ sym (put_first q qs (a + 1) n (omega (arith, same)))
-        ∙ ap (λ o. put_in q (option_to_list o ++ rest)) (sym none)
+        rw (met_before q qs (a + 1) n (omega (arith, same)))
+        (sym (put_first q qs (a + 1) n (omega (arith, same))) ∙ rw none refl)
     step false is later =
         let less : a < number_of q = grind (arith, nat_tests) in
-        ap (λ others. who_at qs a ++ others) (later less)
-        ∙ here (find (λ r. a == number_of r) qs) refl less
+        rw (later less) (here (find (λ r. a == number_of r) qs) refl less)
 
 nobody : (a n : ℕ) → flat_map (who_at []) (range_with_len a n) ≡ []
 nobody a zero = refl
@@ -115,8 +99,7 @@ in_range last (q ∷ qs) apart are =
     ∙ ap (put_in q) (in_range last qs apart.1 are.1)
 
 pub in_order : (last : ℕ) (qs : List Person) → AreApart same_number qs
-    → AllByRecursion (HasNumber last) qs
-    → flat_map (who_at qs) (numbers_to last) ≡ by_number qs
+    → AllByRecursion (HasNumber last) qs → flat_map (who_at qs) (numbers_to last) ≡ by_number qs
 in_order last qs apart are =
     ap (flat_map (who_at qs)) (numbers_are last) ∙ in_range last qs apart are
 
@@ -124,8 +107,7 @@ same_from : {A : Type 0} (f g : ℕ → List A) → ((n : ℕ) → 1 ≤ n → f
     → flat_map f (range_with_len a n) ≡ flat_map g (range_with_len a n)
 same_from f g same a zero h = refl
 same_from f g same a (suc n) h =
-    ap (λ first. first ++ flat_map f (range_with_len (a + 1) n)) (same a h)
-    ∙ ap (λ later. g a ++ later) (same_from f g same (a + 1) n (omega (arith, h)))
+    rw (same a h, same_from f g same (a + 1) n (omega (arith, h))) refl
 
 -- what is the same of each number
 pub same_each : {A : Type 0} (f g : ℕ → List A) → ((n : ℕ) → 1 ≤ n → f n ≡ g n) → (last : ℕ)

@@ -1,37 +1,27 @@
 -- The persons of a competition's file, as the import reads them.
 use Rattle.std.proofs.Common.{◌≡◌, refl, sym, ap, subst, ◌∙◌, ℕ, ◌≤◌, arith, Bool, true, false}
+use Rattle.std.proofs.lemmas.List.{length-map}
 use Rattle.std.proofs.Common.{◌&&◌, ◌==◌, cond, List, [], ◌∷◌, ◌++◌, length, map, filter, codes}
 use Rattle.std.proofs.Common.{bytes_eq, Option, Some, None, unwrap_or, option_and_then, nat_lt, not}
-use Rattle.std.specs.Prelude.{count_by}
-use Rattle.std.specs.List.{list_any, AllByRecursion}
-use Rattle.std.proofs.lemmas.Bool.Decides.{nat_tests}
-use Rattle.std.proofs.lemmas.List.Elements.{filter-append}
-use Rattle.serde_json.specs.Data.{Data}
-use Rattle.serde_json.specs.Find.{as_number, as_u64}
-use Rattle.formats.specs.declared.events.Event.{Event}
-use Rattle.formats.specs.Events.{event_name}
-use Rattle.wcif.specs.declared.fault.CompetitionFault.{CompetitionFault}
-use Rattle.wcif.specs.declared.fault.CompetitionFault.TheVariants as of
-use Rattle.wcif.specs.declared.fault.PersonFault.TheVariants as fault
-use Rattle.wcif.specs.declared.options.SameNames.{SameNames}
-use Rattle.wcif.specs.declared.options.SameNames.TheVariants.{Refuse, WithId}
-use Rattle.wcif.specs.Events.{enters as reads_enters}
-use Rattle.wcif.specs.Faults.{person_faults, who}
-use Rattle.wcif.specs.Members.{listed}
-use Rattle.wcif.specs.Persons as read
-use Rattle.wcif.specs.Told.{told, place}
-use Rattle.wcif.proofs.Counts.{bytes_eq-swap}
-use Rattle.wcif.proofs.Numbered.{in_range}
+use Rattle.std.specs.{Prelude.count_by, List.list_any, List.AllByRecursion}
+use Rattle.std.proofs.lemmas.{Bool.Decides.nat_tests, List.Elements.filter-append}
+use Rattle.serde_json.specs.{Data.Data, Find.as_number, Find.as_u64}
+use Rattle.formats.specs.{declared.events.Event.Event, Events.event_name}
+use Rattle.wcif.specs.{declared.fault.CompetitionFault.CompetitionFault, Faults.who, Members.listed}
+use Rattle.wcif.specs.declared.options.SameNames.{SameNames, TheVariants.Refuse, TheVariants.WithId}
+use Rattle.wcif.specs.{Events.enters as reads_enters, Faults.person_faults, Told.told, Told.place}
+use Rattle.wcif.proofs.Numbered.{bytes_eq-swap, in_range}
 use Rattle.import_laws.specs.Competitions.{Status, accepted, pending, deleted, Person, Held}
 use Rattle.import_laws.specs.Competitions.{Competition, is_accepted, takes_part, who_take_part}
 use Rattle.import_laws.specs.Held.{IsEntrant, IsHeld, AreApart, IsAmong, same_event, same_number}
 use Rattle.import_laws.specs.Held.{same_name, enters, event_of}
-use Rattle.import_laws.specs.SetUp.{number_of}
-use Rattle.import_laws.specs.Spelled.{status_name}
+use Rattle.import_laws.{specs.SetUp.number_of, specs.Spelled.status_name, proofs.Values.data_items}
 use Rattle.import_laws.proofs.Datas.{person_data, number_data, id_data, event_data}
 use Rattle.import_laws.proofs.Lists.{told_nothing, all_at, apart_front, any_filter, any_mapped}
 use Rattle.import_laws.proofs.Lists.{count_mapped, count_filter, count_apart}
-use Rattle.import_laws.proofs.Values.{data_items}
+use Rattle.wcif.specs.declared.fault.CompetitionFault.TheVariants as of
+use Rattle.wcif.specs.declared.fault.PersonFault.TheVariants as fault
+use Rattle.wcif.specs.Persons as read
 
 pub listed_items : (ds : List Data) → listed (data_items ds) ≡ ds
 listed_items [] = refl
@@ -74,10 +64,7 @@ number_equal n (Some m) h = equal_swap m n
 
 pub numbered : (n : ℕ) → 1 ≤ n → (p : Person)
     → read.has_number n (person_data p) ≡ (takes_part p && (n == number_of p))
-numbered n h p =
-    ap (λ b. b && read.is_number n (read.number_of (person_data p))) (takes p)
-    ∙ ap (λ o. takes_part p && read.is_number n o) (number_is p)
-    ∙ ap (λ b. takes_part p && b) (number_equal n p.number h)
+numbered n h p = rw (takes p, number_is p, number_equal n p.number h) refl
 
 -- Where the persons of a competition fit
 
@@ -88,14 +75,8 @@ pub record IsAt (c : Competition) (front : List Person) (p : Person) : Type 0 wh
   pub own_name : list_any (same_name p) (filter takes_part front) ≡ false
 
 who_are : (front : List Person) (p : Person) (back : List Person) → takes_part p ≡ true
-    → filter takes_part (front ++ p ∷ back)
-    ≡ filter takes_part front ++ p ∷ filter takes_part back
-who_are front p back is =
-    filter-append takes_part front (p ∷ back)
-    ∙ ap
-    (λ b. filter takes_part front
-    ++ cond b (p ∷ filter takes_part back) (filter takes_part back))
-    is
+    → filter takes_part (front ++ p ∷ back) ≡ filter takes_part front ++ p ∷ filter takes_part back
+who_are front p back is = filter-append takes_part front (p ∷ back) ∙ rw is refl
 
 same_number-swap : (p q : Person) → same_number p q ≡ same_number q p
 same_number-swap p q = equal_swap (number_of p) (number_of q)
@@ -125,9 +106,7 @@ is_at c h front p back is part =
 
 given_equal : (name : List ℕ) (p : Person)
     → read.has_given name (person_data p) ≡ (takes_part p && bytes_eq name p.name)
-given_equal name p =
-    ap (λ b. b && bytes_eq name (read.given_name (person_data p))) (takes p)
-    ∙ ap (λ given. takes_part p && bytes_eq name given) (name_is p)
+given_equal name p = rw (takes p, name_is p) refl
 
 abbrev key_of : Person → List ℕ
 key_of p = p.name
@@ -137,10 +116,9 @@ pub unshared : (c : Competition) → IsHeld c → (name : List ℕ)
     → read.is_shared (map person_data c.persons) name ≡ false
 unfolding read.is_shared
 unshared c h name =
-    let count : count_by (read.has_given name) (map person_data c.persons)
-    ≡ count_by (λ p. bytes_eq name p.name) (who_take_part c) =
-    count_mapped person_data (read.has_given name) (λ p. takes_part p && bytes_eq name p.name)
-    (given_equal name) c.persons
+    let count : count_by (read.has_given name) (map person_data c.persons) ≡ count_by
+    (λ p. bytes_eq name p.name) (who_take_part c) = count_mapped person_data (read.has_given name)
+    (λ p. takes_part p && bytes_eq name p.name) (given_equal name) c.persons
     ∙ count_filter takes_part (λ p. bytes_eq name p.name) c.persons in
     let few : count_by (λ p. bytes_eq name p.name) (who_take_part c) ≤ 1 =
     count_apart key_of name (who_take_part c) h.own_names in
@@ -151,21 +129,12 @@ pub named : (how : SameNames) (c : Competition) → IsHeld c → (p : Person)
     → read.name_as how (map person_data c.persons) (person_data p) ≡ p.name
 unfolding read.id_as
 named Refuse c h p = name_is p
-named WithId c h p =
-    ap
-    (λ b. read.with_id (read.given_name (person_data p))
-    (cond b (read.wca_id (person_data p)) None))
-    (unshared c h (read.given_name (person_data p)))
-    ∙ name_is p
+named WithId c h p = rw (unshared c h (read.given_name (person_data p))) (name_is p)
 
 named_equal : (how : SameNames) (c : Competition) → IsHeld c → (name : List ℕ) (p : Person)
     → read.has_name how (map person_data c.persons) name (person_data p)
     ≡ (takes_part p && bytes_eq name p.name)
-named_equal how c h name p =
-    ap
-    (λ b. b && bytes_eq name (read.name_as how (map person_data c.persons) (person_data p)))
-    (takes p)
-    ∙ ap (λ n. takes_part p && bytes_eq name n) (named how c h p)
+named_equal how c h name p = rw (takes p, named how c h p) refl
 
 -- Faults
 
@@ -176,19 +145,17 @@ no_number_faults c h front p at =
     let n : ℕ = at.entrant.number in
     let low : 1 ≤ n = at.entrant.number_within.0 in
     let known : number_of p ≡ n = ap (λ o. unwrap_or o 0) at.entrant.has_number in
-    ap (read.number_faults (map person_data front)) (number_is p ∙ at.entrant.has_number)
-    ∙ ap (read.taken_faults (map person_data front))
-    (in_range 1 9999 n low at.entrant.number_within.1)
-    ∙ ap (λ b. cond b (fault.NumberTaken ∷ []) [])
-    (any_mapped person_data (read.has_number n) (λ q. takes_part q && (n == number_of q))
-    (numbered n low) front
-    ∙ sym (any_filter takes_part (λ q. n == number_of q) front)
-    ∙ ap (λ m. list_any (λ q. m == number_of q) (filter takes_part front)) (sym known)
-    ∙ at.own_number)
+    rw (
+      number_is p ∙ at.entrant.has_number,
+      in_range 1 9999 n low at.entrant.number_within.1,
+      any_mapped person_data (read.has_number n) (λ q. takes_part q && (n == number_of q))
+          (numbered n low) front ∙ sym (any_filter takes_part (λ q. n == number_of q) front) ∙ ap
+          (λ m. list_any (λ q. m == number_of q) (filter takes_part front)) (sym known)
+          ∙ at.own_number,
+    ) refl
 
 no_name_faults : (how : SameNames) (c : Competition) → IsHeld c → (front : List Person)
-    (p : Person) → IsAt c front p → (name : List ℕ) → name ≡ p.name
-    → read.name_faults
+    (p : Person) → IsAt c front p → (name : List ℕ) → name ≡ p.name → read.name_faults
     (list_any (read.has_name how (map person_data c.persons) name) (map person_data front)) name
     ≡ []
 no_name_faults how c h front p at name is =
@@ -218,9 +185,8 @@ no_id_faults : (events : List Held) (es : List Event)
     → (front : List Event) (e : Event) (back : List Event) → front ++ e ∷ back ≡ es
     → read.id_faults (map event_data events) (map id_data front) (id_data e) ≡ []
 no_id_faults events es among apart front e back is =
-    let there : list_any (read.has_id (event_name e)) (map event_data events) ≡ true =
-    any_mapped event_data (read.has_id (event_name e)) (λ h. same_event e h.event)
-    (has_id_equal e) events
+    let there : list_any (read.has_id (event_name e)) (map event_data events) ≡ true = any_mapped
+    event_data (read.has_id (event_name e)) (λ h. same_event e h.event) (has_id_equal e) events
     ∙ sym (any_mapped event_of (same_event e) (λ h. same_event e h.event) (λ h. refl) events)
     ∙ all_at (IsAmong (map event_of events)) front e back
     (subst (AllByRecursion (IsAmong (map event_of events))) (sym is) among) in
@@ -228,27 +194,17 @@ no_id_faults events es among apart front e back is =
     any_mapped id_data (read.is_id (event_name e)) (same_event e) (is_id_equal e) front
     ∙ apart_front same_event same_event-swap front e back
     (subst (AreApart same_event) (sym is) apart) in
-    ap
-    (λ b. cond (not b) (fault.NotHeld (place (map id_data front)) ∷ [])
-    (cond (list_any (read.is_id (event_name e)) (map id_data front))
-    (fault.EnteredTwice (place (map id_data front)) ∷ []) []))
-    there
-    ∙ ap (λ b. cond b (fault.EnteredTwice (place (map id_data front)) ∷ []) []) once
-
-mapped_length : {A B : Type 0} (f : A → B) (xs : List A) → length (map f xs) ≡ length xs
-mapped_length f [] = refl
-mapped_length f (x ∷ xs) = let h = mapped_length f xs in omega (arith, h)
+    rw (there, once) refl
 
 no_events_faults : (c : Competition) (p : Person) → IsEntrant (map event_of c.events) p
     → read.events_faults (map event_data c.events) (read.event_ids (person_data p)) ≡ []
 no_events_faults c p is =
     let few : length (map id_data p.events) ≤ 100 =
-    let same = mapped_length id_data p.events in let few = is.few in omega (arith, same, few) in
+    let same = length-map p.events id_data in let few = is.few in omega (arith, same, few) in
     ap (read.events_faults (map event_data c.events)) (ids_are p)
-    ∙ ap
-    (λ b. cond b (fault.TooManyEvents ∷ [])
-    (told (read.id_faults (map event_data c.events)) (map id_data p.events)))
-    (let many : nat_lt 100 (length (map id_data p.events)) ≡ false = grind (arith, nat_tests) in
+    ∙ ap (λ b. cond b (fault.TooManyEvents ∷ [])
+    (told (read.id_faults (map event_data c.events)) (map id_data p.events))) (let many : nat_lt 100
+    (length (map id_data p.events)) ≡ false = grind (arith, nat_tests) in
     many)
     ∙ told_nothing id_data (read.id_faults (map event_data c.events)) p.events
     (no_id_faults c.events p.events is.among is.once)
@@ -264,12 +220,11 @@ none_accepted how c h front p at =
     let d : Data = person_data p in
     let name : List ℕ = read.name_as how everyone d in
     let taken : Bool = list_any (read.has_name how everyone name) (map person_data front) in
-    ap
-    (λ said. said ++ read.name_faults taken name ++ read.events_faults events (read.event_ids d))
-    (no_number_faults c h front p at)
-    ∙ ap (λ said. [] ++ said ++ read.events_faults events (read.event_ids d))
-    (no_name_faults how c h front p at name (named how c h p))
-    ∙ ap (λ said. [] ++ [] ++ said) (no_events_faults c p at.entrant)
+    rw (
+      no_number_faults c h front p at,
+      no_name_faults how c h front p at name (named how c h p),
+      no_events_faults c p at.entrant,
+    ) refl
 
 -- nothing is told of a person
 pub no_person_faults : (how : SameNames) (c : Competition) → IsHeld c → (front : List Person)
@@ -299,10 +254,8 @@ no_person_faults how c h front p back is =
 pub enters_equal : (e : Event) (p : Person) → reads_enters e (person_data p) ≡ enters e p
 unfolding reads_enters
 enters_equal e p =
-    ap (λ b. b && list_any (read.is_id (event_name e))
-    (unwrap_or (read.event_ids (person_data p)) []))
-    (takes p)
-    ∙ ap (λ ids. takes_part p && list_any (read.is_id (event_name e)) (unwrap_or ids []))
-    (ids_are p)
-    ∙ ap (λ b. takes_part p && b)
-    (any_mapped id_data (read.is_id (event_name e)) (same_event e) (is_id_equal e) p.events)
+    rw (
+      takes p,
+      ids_are p,
+      any_mapped id_data (read.is_id (event_name e)) (same_event e) (is_id_equal e) p.events,
+    ) refl

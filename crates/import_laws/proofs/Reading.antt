@@ -1,24 +1,18 @@
 -- The bytes of a competition's file are read as its value.
-use Rattle.std.proofs.Common.{◌≡◌, refl, sym, ap, ◌∙◌, ℕ, ◌≤◌, arith, Bool, false, List, []}
-use Rattle.std.proofs.Common.{◌∷◌, ◌++◌, append-nil, Some, option_and_then}
-use Rattle.std.specs.List.{AllByRecursion}
-use Rattle.std.specs.Str.{IsUtf8}
+use Rattle.std.proofs.Common.{◌≡◌, refl, sym, ap, ◌∙◌, ℕ, ◌≤◌, arith, Bool, false, List, [], ◌∷◌}
+use Rattle.std.proofs.Common.{◌++◌, append-nil, Some}
+use Rattle.std.specs.{List.AllByRecursion, Str.IsUtf8}
 use Rattle.std.proofs.lemmas.Str.{IsUtf8-append, IsUtf8-nil}
-use Rattle.json.specs.Json as json
 use Rattle.json.specs.Print.{print, print_from, separator, token_text, ends}
-use Rattle.json.specs.Token.{Token}
-use Rattle.json.specs.Tree as tree
-use Rattle.json.proofs.Printed.Tokens.{tokens-print}
-use Rattle.json.proofs.Printed.Trees.{value-json_tokens, ArePrintable-json_tokens}
-use Rattle.json.proofs.Printed.Utf8.{IsUtf8-separator}
-use Rattle.serde_json.specs.Data.{Data}
-use Rattle.serde_json.specs.Read.{of_json, read, max_depth}
+use Rattle.json.{specs.Token.Token, proofs.Printed.Trees.ArePrintable-json_tokens}
+use Rattle.json.proofs.Printed.{Trees.value-json_tokens, Tokens.tokens-print, Utf8.IsUtf8-separator}
+use Rattle.serde_json.specs.{Data.Data, Read.read, Read.max_depth}
 use Rattle.wcif.specs.Files.{Holds, without_mark}
-use Rattle.import_laws.specs.Competitions.{Competition}
-use Rattle.import_laws.specs.Held.{IsHeld}
+use Rattle.import_laws.specs.{Competitions.Competition, Held.IsHeld}
 use Rattle.import_laws.specs.Spelled.{file_json, spelled}
-use Rattle.import_laws.proofs.Datas.{file_data, spells_file}
-use Rattle.import_laws.proofs.Values.{Spells, HasText}
+use Rattle.import_laws.proofs.{Datas.file_data, Datas.spells_file, Values.Spells, Values.HasText}
+use Rattle.json.specs.Json as json
+use Rattle.json.specs.Tree as tree
 
 printed_text : (b : Bool) (ts : List Token) → AllByRecursion HasText ts → IsUtf8 (print_from b ts)
 unfolding print_from
@@ -31,12 +25,9 @@ pub read_back : (j : json.Json) (d : Data) (n : ℕ) → n ≤ 127 → Spells j 
     → read (print (tree.json_tokens j)) ≡ Some d
 read_back j d n few s =
     let deep = s.shallow in
-    ap (λ o. option_and_then of_json (option_and_then (λ p. json.if_last p.0 p.1) o))
-    (ap (json.value max_depth)
-    (tokens-print (tree.json_tokens j) (ArePrintable-json_tokens j s.numbers)
-    ∙ sym (append-nil (tree.json_tokens j)))
-    ∙ value-json_tokens j max_depth [] (omega (arith, deep, few)))
-    ∙ s.reads
+    rw (ap (json.value max_depth) (tokens-print (tree.json_tokens j)
+    (ArePrintable-json_tokens j s.numbers) ∙ sym (append-nil (tree.json_tokens j)))
+    ∙ value-json_tokens j max_depth [] (omega (arith, deep, few))) s.reads
 
 no_mark : (c : Competition) → without_mark (spelled c) ≡ spelled c
 unfolding without_mark file_json print_from

@@ -1,69 +1,50 @@
 -- The rounds of a competition's file: a desk holds the settings of each.
-use Rattle.std.proofs.Common.{◌≡◌, refl, ap, ◌∙◌, ℕ, ◌+◌, arith, true}
-use Rattle.std.proofs.Common.{cond, List, [], ◌∷◌, ◌++◌, length, map, Option, Some}
-use Rattle.std.proofs.Common.{None, option_and_then, option_map, ◌-◌, length-append}
-use Rattle.std.specs.Prelude.{ok_or, Ok}
-use Rattle.std.specs.List.{AllByRecursion}
-use Rattle.std.specs.Result.{result_ok}
+use Rattle.std.proofs.Common.{◌≡◌, refl, ap, ◌∙◌, ℕ, ◌+◌, arith, true, List, [], ◌∷◌, ◌++◌, length}
+use Rattle.std.proofs.Common.{map, Option, Some, None, option_and_then, option_map, ◌-◌}
+use Rattle.std.{proofs.Common.length-append, specs.Prelude.Ok, specs.List.AllByRecursion}
 use Rattle.serde_json.specs.Data.{Data}
 use Rattle.attempts.specs.declared.Unit.{Unit as Measure}
 use Rattle.attempts.specs.declared.Unit.TheVariants.{Time, Moves, Multi}
-use Rattle.formats.specs.declared.advance.Advance.{Advance as Advances}
+use Rattle.formats.specs.declared.{advance.Advance.Advance as Advances, events.Event.Event}
 use Rattle.formats.specs.declared.advance.Advance.TheVariants.{Final, Top, Percent}
-use Rattle.formats.specs.declared.events.Event.{Event}
-use Rattle.formats.specs.declared.events.Format.{Format}
-use Rattle.formats.specs.declared.events.Format.TheVariants.{Ao5, Mo3, Bo1, Bo2, Bo3}
+use Rattle.formats.specs.declared.events.Format.{Format, TheVariants.Ao5}
 use Rattle.formats.specs.Events.{unit_of, is_allowed, attempts_of}
-use Rattle.texts.specs.declared.command.Settings.{Settings}
-use Rattle.texts.specs.Numerals.{within}
+use Rattle.texts.specs.{declared.command.Settings.Settings, Numerals.within}
 use Rattle.texts.proofs.Numerals.{bytes_eq-same}
-use Rattle.wcif.specs.declared.fault.CompetitionFault.TheVariants as of
-use Rattle.wcif.specs.declared.fault.RoundFault.TheVariants as fault
-use Rattle.wcif.specs.declared.options.CumulativeLimits.{CumulativeLimits}
-use Rattle.wcif.specs.declared.options.CumulativeLimits.TheVariants as limits
-use Rattle.wcif.specs.Events.{each_round}
-use Rattle.wcif.specs.Members.{not_null}
-use Rattle.wcif.specs.Rounds.{named_format, if_allowed, format_in, cutoff_of, cutoff_by, cutoff_in}
-use Rattle.wcif.specs.Rounds.{limit_of, limit_by, limit_in, advance_by, advance_in, settings_in}
-use Rattle.wcif.specs.Rounds.{settings, round_id, format_faults, faults_of, round_faults}
-use Rattle.wcif.specs.Told.{told, told_from}
-use Rattle.wcif.proofs.Numbered.{in_range}
+use Rattle.wcif.specs.{declared.options.CumulativeLimits.CumulativeLimits, Events.each_round}
+use Rattle.wcif.{proofs.Numbered.in_range, specs.Rounds.round_id, specs.Rounds.round_faults}
+use Rattle.wcif.specs.{Members.not_null, Told.told, Told.told_from}
+use Rattle.wcif.specs.Rounds.{named_format, format_in, cutoff_of, cutoff_by, cutoff_in, limit_of}
+use Rattle.wcif.specs.Rounds.{limit_by, limit_in, advance_by, advance_in, settings_in, settings}
 use Rattle.import_laws.specs.Held.{IsRound, IsCutoff, IsLimit, IsAdvance}
 use Rattle.import_laws.specs.Spelled.{format_code}
 use Rattle.import_laws.proofs.Datas.{round_data, rounds_data, limit_data, cutoff_data, advance_data}
+use Rattle.wcif.specs.declared.fault.CompetitionFault.TheVariants as of
+use Rattle.wcif.specs.declared.options.CumulativeLimits.TheVariants as limits
 
 named : (f : Format) → named_format (format_code f) ≡ Some f
 unfolding named_format
 named Ao5 = refl
-named Mo3 = refl
-named Bo1 = refl
-named Bo2 = refl
-named Bo3 = refl
+named _ = refl
 
 pub format_is : (e : Event) (n : ℕ) (s : Settings) → is_allowed e s.format ≡ true
     → format_in e (round_data e n s) ≡ Some s.format
 unfolding format_in
-format_is e n s allowed =
-    ap (option_and_then (if_allowed e)) (named s.format)
-    ∙ ap (λ b. cond b (Some s.format) None) allowed
+format_is e n s allowed = rw (named s.format, allowed) refl
 
 cutoff_held : (f : Format) (c : ℕ × ℕ) → IsCutoff Time f (Some c)
     → cutoff_of (Some f) (cutoff_data (Some c)) ≡ Some c
 unfolding cutoff_of
 cutoff_held f c h =
-    ap
-    (option_and_then
-    (λ k. option_map (λ below. (k, below)) (within 1 360000 c.1)))
+    ap (option_and_then (λ k. option_map (λ below. (k, below)) (within 1 360000 c.1)))
     (in_range 1 (attempts_of f - 1) c.0 h.0.0 h.0.1)
     ∙ ap (option_map (λ below. (c.0, below))) (in_range 1 360000 c.1 h.1.0 h.1.1)
 
 cutoff_read : (unit : Measure) (f : Format) (o : Option (ℕ × ℕ)) → IsCutoff unit f o
     → cutoff_by unit (Some f) (not_null (cutoff_data o)) ≡ Ok o
 cutoff_read unit f None h = refl
-cutoff_read Time f (Some c) h =
-    ap (λ o. ok_or (option_map Some o) fault.Cutoff) (cutoff_held f c h)
-cutoff_read Moves f (Some c) h =
-    ap (λ o. ok_or (option_map Some o) fault.Cutoff) (cutoff_held f c h)
+cutoff_read Time f (Some c) h = rw (cutoff_held f c h) refl
+cutoff_read Moves f (Some c) h = rw (cutoff_held f c h) refl
 cutoff_read Multi f (Some c) h = absurd h
 
 pub cutoff_is : (e : Event) (n : ℕ) (s : Settings) → IsCutoff (unit_of e) s.format s.cutoff
@@ -74,10 +55,8 @@ cutoff_is e n s h = cutoff_read (unit_of e) s.format s.cutoff h
 limit_held : (how : CumulativeLimits) (limit : ℕ) → IsLimit Time (Some limit)
     → limit_of how (limit_data (Some limit)) ≡ Ok (Some limit)
 unfolding limit_of
-limit_held limits.Refuse limit h =
-    ap (λ o. ok_or (option_map Some o) fault.Limit) (in_range 1 360000 limit h.0 h.1)
-limit_held limits.AsSingle limit h =
-    ap (λ o. ok_or (option_map Some o) fault.Limit) (in_range 1 360000 limit h.0 h.1)
+limit_held limits.Refuse limit h = rw (in_range 1 360000 limit h.0 h.1) refl
+limit_held limits.AsSingle limit h = rw (in_range 1 360000 limit h.0 h.1) refl
 
 limit_read : (how : CumulativeLimits) (unit : Measure) (o : Option ℕ) → IsLimit unit o
     → limit_by how unit (not_null (limit_data o)) ≡ Ok o
@@ -95,10 +74,8 @@ limit_is how e n s h = limit_read how (unit_of e) s.limit h
 
 advance_read : (a : Advances) → IsAdvance a → advance_by (not_null (advance_data a)) ≡ Ok a
 advance_read Final h = refl
-advance_read (Top n) h =
-    ap (λ o. ok_or (option_map Top o) fault.Advance) (in_range 1 999 n h.0 h.1)
-advance_read (Percent n) h =
-    ap (λ o. ok_or (option_map Percent o) fault.Advance) (in_range 1 75 n h.0 h.1)
+advance_read (Top n) h = rw (in_range 1 999 n h.0 h.1) refl
+advance_read (Percent n) h = rw (in_range 1 75 n h.0 h.1) refl
 
 pub advance_is : (e : Event) (n : ℕ) (s : Settings) → IsAdvance s.advance
     → advance_in (round_data e n s) ≡ Ok s.advance
@@ -110,49 +87,25 @@ pub settings_are : (how : CumulativeLimits) (e : Event) (n : ℕ) (s : Settings)
 unfolding settings_in
 settings_are how e n s h =
     let d : Data = round_data e n s in
-    ap
-    (option_and_then
-    (λ f. option_and_then
-    (λ cutoff. option_and_then
-    (λ limit. option_map (settings f cutoff limit) (result_ok (advance_in d)))
-    (result_ok (limit_in how e d)))
-    (result_ok (cutoff_in e (Some f) d))))
-    (format_is e n s h.format)
-    ∙ ap
-    (λ r. option_and_then
-    (λ cutoff. option_and_then
-    (λ limit. option_map (settings s.format cutoff limit) (result_ok (advance_in d)))
-    (result_ok (limit_in how e d)))
-    (result_ok r))
-    (cutoff_is e n s h.cutoff)
-    ∙ ap
-    (λ r. option_and_then
-    (λ limit. option_map (settings s.format s.cutoff limit) (result_ok (advance_in d)))
-    (result_ok r))
-    (limit_is how e n s h.limit)
-    ∙ ap (λ r. option_map (settings s.format s.cutoff s.limit) (result_ok r))
-    (advance_is e n s h.advance)
+    rw (
+      format_is e n s h.format,
+      cutoff_is e n s h.cutoff,
+      limit_is how e n s h.limit,
+      advance_is e n s h.advance,
+    ) refl
 
 pub no_round_faults : (how : CumulativeLimits) (e : Event) (n : ℕ) (s : Settings) → IsRound e s
     → round_faults how e n (round_data e n s) ≡ []
 unfolding round_faults
 no_round_faults how e n s h =
     let d : Data = round_data e n s in
-    ap
-    (λ b. cond b [] (fault.Id ∷ []) ++ format_faults (format_in e d)
-    ++ faults_of (cutoff_in e (format_in e d) d) ++ faults_of (limit_in how e d)
-    ++ faults_of (advance_in d))
-    (bytes_eq-same (round_id e n))
-    ∙ ap
-    (λ f. [] ++ format_faults f ++ faults_of (cutoff_in e f d) ++ faults_of (limit_in how e d)
-    ++ faults_of (advance_in d))
-    (format_is e n s h.format)
-    ∙ ap
-    (λ r. [] ++ [] ++ faults_of r ++ faults_of (limit_in how e d) ++ faults_of (advance_in d))
-    (cutoff_is e n s h.cutoff)
-    ∙ ap (λ r. [] ++ [] ++ [] ++ faults_of r ++ faults_of (advance_in d))
-    (limit_is how e n s h.limit)
-    ∙ ap (λ r. [] ++ [] ++ [] ++ [] ++ faults_of r) (advance_is e n s h.advance)
+    rw (
+      bytes_eq-same (round_id e n),
+      format_is e n s h.format,
+      cutoff_is e n s h.cutoff,
+      limit_is how e n s h.limit,
+      advance_is e n s h.advance,
+    ) refl
 
 rounds_told : (how : CumulativeLimits) (e : Event) (earlier : List Data) (n : ℕ)
     (ss : List Settings) → length earlier + 1 ≡ n → AllByRecursion (IsRound e) ss

@@ -1,24 +1,17 @@
 -- The worked file.
 use Rattle.std.proofs.Common.{◌≡◌, refl, subst, true, length, arith, leb-true}
-use Rattle.std.specs.Char.{encode_utf8}
-use Rattle.std.specs.Fmt.{digits}
-use Rattle.std.specs.Str.{chars, is_utf8}
+use Rattle.import_laws.specs.Worked.{bob, cy, ada, zoe, meet, file, printed, plain}
+use Rattle.import_laws.specs.{Held.IsPerson, Held.IsText, Held.IsNumber, Held.IsHeld, SetUp.set_up}
+use Rattle.import_laws.{specs.Competitions.Person, specs.Laws.IsImportedTo, proofs.Whole.good_files}
+use Rattle.json.proofs.Printed.Utf8.{are_ascii, IsUtf8-are_ascii}
+use Rattle.std.specs.{Char.encode_utf8, Fmt.digits, Str.chars, Str.is_utf8}
 use Rattle.json.specs.Print.{escape_byte, print_from}
-use Rattle.json.proofs.Printed.Utf8.{IsUtf8-are_ascii}
 use Rattle.ucd_table.specs.Rows.{value_in}
 use Rattle.ucd_category.specs.GeneralCategory.{general_category}
 use Rattle.ucd_category.specs.GeneralCategoryRows.{general_category_rows}
-use Rattle.texts.specs.Names.{is_clear_name}
-use Rattle.texts.specs.Table.{rows}
-use Rattle.wcif.specs.declared.options.Edition.TheVariants.{Four}
-use Rattle.wcif.specs.Lines.{lines}
-use Rattle.import_laws.specs.Held.{IsHeld}
-use Rattle.import_laws.specs.Laws.{IsImportedTo}
-use Rattle.import_laws.specs.SetUp.{set_up}
+use Rattle.texts.specs.{Names.is_clear_name, Table.rows}
+use Rattle.wcif.specs.{declared.options.Edition.TheVariants.Four, Lines.lines}
 use Rattle.import_laws.specs.Spelled.{spelled, person_json, round_json, event_json, file_json}
-use Rattle.import_laws.specs.Worked.{ada, zoe}
-use Rattle.import_laws.specs.Worked.{meet, file, printed, plain}
-use Rattle.import_laws.proofs.Whole.{good_files}
 
 pub bytes_are : spelled meet ≡ file
 unfolding digits escape_byte print_from person_json round_json event_json file_json
@@ -36,37 +29,27 @@ clear_zoe : is_clear_name zoe.name ≡ true
 unfolding encode_utf8 chars is_utf8 value_in general_category general_category_rows is_clear_name
 clear_zoe = refl
 
+-- a person whose texts are ASCII
+can_be_spelled : (p : Person) → are_ascii p.email ≡ true → are_ascii p.name ≡ true
+    → IsText p.wca_id → IsNumber p.number → IsPerson p
+can_be_spelled p email name wca_id number = record {
+  email = IsUtf8-are_ascii _ email;
+  name = IsUtf8-are_ascii _ name;
+  wca_id = wca_id;
+  number = number;
+}
+
 pub is_held : IsHeld meet
 is_held = record {
   name = IsUtf8-are_ascii _ refl;
   persons = (
-    record {
-      email = IsUtf8-are_ascii _ refl;
-      name = IsUtf8-are_ascii _ refl;
-      wca_id = IsUtf8-are_ascii _ refl;
-      number = omega arith;
-    },
+    can_be_spelled ada refl refl (IsUtf8-are_ascii _ refl) (omega arith),
     (
-      record {
-        email = IsUtf8-are_ascii _ refl;
-        name = IsUtf8-are_ascii _ refl;
-        wca_id = tt;
-        number = tt;
-      },
+      can_be_spelled bob refl refl tt tt,
       (
-        record {
-          email = IsUtf8-are_ascii _ refl;
-          name = IsUtf8-are_ascii _ refl;
-          wca_id = tt;
-          number = omega arith;
-        },
+        can_be_spelled cy refl refl tt (omega arith),
         (
-          record {
-            email = IsUtf8-are_ascii _ refl;
-            name = IsUtf8-are_ascii _ refl;
-            wca_id = tt;
-            number = omega arith;
-          },
+          can_be_spelled zoe refl refl tt (omega arith),
           tt,
         ),
       ),
@@ -109,12 +92,7 @@ is_held = record {
           advance = (omega arith, omega arith);
         },
         (
-          record {
-            format = refl;
-            cutoff = tt;
-            limit = (omega arith, omega arith);
-            advance = tt;
-          },
+          record { format = refl; cutoff = tt; limit = (omega arith, omega arith); advance = tt },
           tt,
         ),
       );

@@ -1,20 +1,16 @@
 -- The competitions of which a desk can hold all (the project's own).
 use Rattle.std.specs.Prelude.{◌≡◌, ◌≤◌, ◌-◌, ◌==◌, ◌&&◌, ℕ, Bool, true, false, List, [], ◌∷◌}
 use Rattle.std.specs.Prelude.{length, bytes_eq, count_by, map, Option, Some, None}
-use Rattle.std.specs.List.{list_any, AllByRecursion}
-use Rattle.std.specs.Str.{IsUtf8}
+use Rattle.std.specs.{List.list_any, List.AllByRecursion, Str.IsUtf8}
 use Rattle.attempts.specs.declared.Unit.{Unit as Measure}
 use Rattle.attempts.specs.declared.Unit.TheVariants.{Time, Moves, Multi}
 use Rattle.formats.specs.declared.advance.Advance.{Advance as Advances}
 use Rattle.formats.specs.declared.advance.Advance.TheVariants.{Final, Top, Percent}
-use Rattle.formats.specs.declared.events.Event.{Event}
-use Rattle.formats.specs.declared.events.Format.{Format}
+use Rattle.formats.specs.declared.events.{Event.Event, Format.Format}
 use Rattle.formats.specs.Events.{event_name, unit_of, is_allowed, attempts_of}
-use Rattle.texts.specs.declared.command.Settings.{Settings}
-use Rattle.texts.specs.Names.{is_clear_name}
+use Rattle.texts.specs.{declared.command.Settings.Settings, Names.is_clear_name}
 use Rattle.import_laws.specs.Competitions.{Person, Held, Competition, takes_part, who_take_part}
-use Rattle.import_laws.specs.SetUp.{number_of}
-use Rattle.import_laws.specs.Spelled.{spelled}
+use Rattle.import_laws.specs.{SetUp.number_of, Spelled.spelled}
 
 abbrev pub IsWithin : ℕ → ℕ → ℕ → Type 0
 IsWithin low high n = (low ≤ n) × (n ≤ high)

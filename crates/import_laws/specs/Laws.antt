@@ -1,15 +1,9 @@
 -- What a competition's file is imported to (the project's own).
-use Rattle.std.specs.Prelude.{◌≡◌, List}
+use Rattle.std.specs.Prelude.{◌≡◌, List, ℕ}
 use Rattle.texts.specs.declared.command.Command.{Command}
-use Rattle.wcif.specs.declared.file.FileFault.{FileFault}
-use Rattle.wcif.specs.declared.file.FileFault.TheVariants.{NoMemory}
-use Rattle.wcif.specs.declared.options.Options.{Options}
-use Rattle.wcif.specs.Files.{SetsUp, FileFails}
-use Rattle.import_laws.specs.Competitions.{Competition}
-use Rattle.import_laws.specs.Held.{IsHeld}
-use Rattle.import_laws.specs.SetUp.{set_up}
-use Rattle.import_laws.specs.Spelled.{spelled}
-use Rattle.std.specs.Prelude.{ℕ}
+use Rattle.wcif.specs.declared.file.FileFault.{FileFault, TheVariants.NoMemory}
+use Rattle.wcif.specs.{declared.options.Options.Options, Files.SetsUp, Files.FileFails}
+use Rattle.import_laws.specs.{Competitions.Competition, Held.IsHeld, SetUp.set_up, Spelled.spelled}
 
 -- what `import_file` promises of these bytes leads to these commands and no others, and to no
 -- fault but want of memory

@@ -2,15 +2,13 @@
 -- the numbers; OPEN of the first round of each event, in the order of the events; ENT for each
 -- event of each accepted person, in the order of the numbers and then of the registration (the
 -- project's own).
-use Rattle.std.specs.Prelude.{ℕ, nat_lt, if◌then◌else◌, List, [], ◌∷◌, ◌++◌, map}
-use Rattle.std.specs.Prelude.{flat_map, unwrap_or}
+use Rattle.std.specs.Prelude.{ℕ, nat_lt, if◌then◌else◌, List, [], ◌∷◌, ◌++◌, map, flat_map}
+use Rattle.std.specs.Prelude.{unwrap_or}
 use Rattle.formats.specs.declared.events.Event.{Event}
-use Rattle.texts.specs.declared.command.Command.{Command}
+use Rattle.texts.specs.declared.command.{Command.Command, Settings.Settings}
 use Rattle.texts.specs.declared.command.Command.TheVariants.{Register, Open, Enter, SetEdition}
-use Rattle.texts.specs.declared.command.Settings.{Settings}
 use Rattle.texts.specs.Fields.{round_id}
-use Rattle.wcif.specs.declared.options.Edition.{Edition}
-use Rattle.wcif.specs.declared.options.Edition.TheVariants.{Three, Four}
+use Rattle.wcif.specs.declared.options.Edition.{Edition, TheVariants.Three, TheVariants.Four}
 use Rattle.import_laws.specs.Competitions.{Person, Held, Competition, who_take_part}
 
 -- the number of who takes part

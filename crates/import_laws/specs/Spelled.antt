@@ -4,15 +4,11 @@
 -- order, an e-mail address before the name.
 use Rattle.std.specs.Prelude.{ℕ, ◌+◌, List, [], ◌∷◌, ◌++◌, map, codes, decimal, Option, Some, None}
 use Rattle.json.specs.Json.{Json, null, number, string, array, object, no_members, member}
-use Rattle.json.specs.Print.{print}
-use Rattle.json.specs.Tree.{json_tokens}
-use Rattle.json.specs.Value.{items_of}
-use Rattle.formats.specs.declared.advance.Advance.{Advance as Advances}
+use Rattle.json.specs.{Print.print, Tree.json_tokens, Value.items_of}
+use Rattle.formats.specs.{declared.advance.Advance.Advance as Advances, Events.event_name}
 use Rattle.formats.specs.declared.advance.Advance.TheVariants.{Final, Top, Percent}
-use Rattle.formats.specs.declared.events.Event.{Event}
-use Rattle.formats.specs.declared.events.Format.{Format}
+use Rattle.formats.specs.declared.events.{Event.Event, Format.Format}
 use Rattle.formats.specs.declared.events.Format.TheVariants.{Ao5, Mo3, Bo1, Bo2, Bo3}
-use Rattle.formats.specs.Events.{event_name}
 use Rattle.texts.specs.declared.command.Settings.{Settings}
 use Rattle.import_laws.specs.Competitions.{Status, accepted, pending, deleted, Person, Held}
 use Rattle.import_laws.specs.Competitions.{Competition}
@@ -94,8 +90,7 @@ unfoldable pub round_json : Event → ℕ → Settings → Json
 round_json e n s =
     object (member (codes "id") (string (round_name e n))
     (member (codes "format") (string (format_code s.format))
-    (member (codes "timeLimit") (limit_json s.limit)
-    (member (codes "cutoff") (cutoff_json s.cutoff)
+    (member (codes "timeLimit") (limit_json s.limit) (member (codes "cutoff") (cutoff_json s.cutoff)
     (member (codes "advancementCondition") (advance_json s.advance)
     (member (codes "results") (list []) no_members))))))
 

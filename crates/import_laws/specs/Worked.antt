@@ -7,16 +7,12 @@ use Rattle.formats.specs.declared.advance.Advance.TheVariants.{Final, Top}
 use Rattle.formats.specs.declared.events.Event.TheVariants.{Cube3, FewestMoves}
 use Rattle.formats.specs.declared.events.Format.TheVariants.{Ao5, Mo3}
 use Rattle.texts.specs.declared.command.Settings.{Settings}
-use Rattle.wcif.specs.declared.options.CumulativeLimits.TheVariants as limits
-use Rattle.wcif.specs.declared.options.Edition.TheVariants.{Four}
-use Rattle.wcif.specs.declared.options.Options.{Options}
-use Rattle.wcif.specs.declared.options.SameNames.TheVariants as names
+use Rattle.wcif.specs.declared.options.{Edition.TheVariants.Four, Options.Options}
 use Rattle.wcif.specs.Lines.{lines}
 use Rattle.import_laws.specs.Competitions.{accepted, pending, deleted, Person, Held, Competition}
-use Rattle.import_laws.specs.Held.{IsHeld}
-use Rattle.import_laws.specs.Laws.{IsImportedTo}
-use Rattle.import_laws.specs.SetUp.{set_up}
-use Rattle.import_laws.specs.Spelled.{spelled}
+use Rattle.import_laws.specs.{Held.IsHeld, Laws.IsImportedTo, SetUp.set_up, Spelled.spelled}
+use Rattle.wcif.specs.declared.options.CumulativeLimits.TheVariants as limits
+use Rattle.wcif.specs.declared.options.SameNames.TheVariants as names
 
 abbrev pub ada : Person
 ada =

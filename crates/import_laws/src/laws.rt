@@ -1,7 +1,6 @@
 //! The laws.
 
-ghost use Rattle.import_laws.specs.Laws.{GoodFilesAreImported};
-ghost use Rattle.import_laws.specs.Worked.{WorksFile};
+ghost use Rattle.import_laws.specs.{Laws.GoodFilesAreImported, Worked.WorksFile};
 
 /// A competition's file that was written by hand, byte for byte, and its commands: two accepted
 /// persons, a pending and a deleted one, two events, three rounds.

@@ -1,15 +1,15 @@
 -- What a mirror holds after calls of any kind, in any order (the project's own).
-use Rattle.std.specs.Prelude.{ℕ, ◌≡◌, List, [], ◌∷◌, Option, Ok}
+use Rattle.std.specs.Prelude.{ℕ, ◌≡◌, ◌-◌, List, [], ◌∷◌, length, Option, None, Some, Ok}
 use Rattle.acceptor.specs.declared.entry.Entry.{Entry}
-use Rattle.client.specs.Answers.{judged}
-use Rattle.client.specs.Standings.{log_request}
-use Rattle.mirror.specs.Fronts.{TakesAs}
-use Rattle.mirror.specs.declared.mirror.MirrorGrowth.{MirrorGrowth}
+use Rattle.client.specs.{Answers.judged, Standings.log_request}
+use Rattle.mirror.specs.{Fronts.TakesAs, declared.mirror.MirrorGrowth.MirrorGrowth}
 use Rattle.wire.specs.declared.frame.Frame.{Frame}
-use Rattle.wire.specs.declared.frame.FrameBody.TheVariants as what
-use Rattle.desk_talks.specs.Dialogues.{Call as DialogueCall, CallsLead}
+use Rattle.desk_talks.specs.Dialogues.{Act, Call as DialogueCall, CallsLead}
+use Rattle.desk_talks.specs.Exchanges.{ExchangeOf}
 use Rattle.kept_mirror.specs.Mirrorings.{DialogueLeads, MirroringOf, awaiting, hurried}
 use Rattle.kept_mirror.specs.Mirrorings.{new_mirroring}
+use Rattle.wire.specs.declared.frame.FrameBody.TheVariants as what
+use Rattle.desk_talks.specs.declared.dialogue.DialogueAction.TheVariants as wish
 
 -- a call: one of its dialogue, or another one
 pub data Call : Type 0 where
@@ -32,8 +32,7 @@ pub record Answer (hall : ℕ) : Type 0 where
   pub position : ℕ
   pub len : ℕ
   pub entries : List Entry
-  pub answers : judged (log_request hall desk asked) frame
-      ≡ Ok (what.Entries position len entries)
+  pub answers : judged (log_request hall desk asked) frame ≡ Ok (what.Entries position len entries)
   pub outcome : Option MirrorGrowth
 
 -- a mirror took answers, one after the other
@@ -49,3 +48,15 @@ HoldsWhatWasAnswered =
     (hall desks : ℕ) (calls : List Call) (after : MirroringOf)
     → CallsLead CallLeads (new_mirroring hall desks) calls after
     → (answers : List (Answer hall)) × TakesAnswers [] answers after.entries
+
+-- the desk that is followed is asked for what its log has from the last held entry on
+abbrev pub IsAskedFrom : MirroringOf → MirroringOf → Type 0
+IsAskedFrom old new =
+    (t : ExchangeOf) × (new.line.talking ≡ Some t)
+    × (t.question ≡ Some (log_request old.hall old.follower.desk (length old.entries - 1)))
+
+-- Where no command is waited for, what is asked for begins where that ends which is held.
+abbrev pub AsksWhereItEnds : Type 0
+AsksWhereItEnds =
+    (now : ℕ) (old new : MirroringOf) → DialogueLeads (Act wish.Write now) old new
+    → old.awaits ≡ None → IsAskedFrom old new

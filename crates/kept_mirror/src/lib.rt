@@ -6,5 +6,4 @@
 pub mod laws;
 mod mirroring;
 
-pub use log_follower::FollowStage;
 pub use mirroring::Mirroring;

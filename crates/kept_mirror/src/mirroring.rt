@@ -1,17 +1,20 @@
-//! A mirror, the follower that says which desk is asked, and the talk with it.
+//! A mirror, the follower that says which desk is asked, and the connection to it.
 
-ghost use Rattle.std.specs.Prelude.{◌≡◌, ◌≤◌, ◌+◌, false, IfOk, List, length};
-ghost use Rattle.log_follower.specs.Following.{IsPlace, wait_of};
-ghost use Rattle.kept_mirror.specs.Mirrorings.{Asks, Fails, Follows, FollowsAnswer, Grows};
-ghost use Rattle.kept_mirror.specs.Mirrorings.{after_told, awaiting};
-ghost use Rattle.kept_mirror.specs.Mirrorings.{hurried, is_growth, is_within, lost};
-ghost use Rattle.kept_mirror.specs.Mirrorings.{new_mirroring, question_by, unsent_by};
-ghost use Rattle.desk_talks.specs.declared.dialogue.ReceiveOutcome.TheVariants as came;
+ghost use Rattle.std.specs.Prelude.{◌≡◌, ◌≤◌, ◌+◌, false, IfOk, length};
+ghost use Rattle.log_follower.specs.Following.{IsPlace};
+ghost use Rattle.kept_mirror.specs.Mirrorings.{Asks, Fails, Grows, hurried, lost, wait_of};
+ghost use Rattle.kept_mirror.specs.Mirrorings.{Follows, after_told, given_up, is_growth, is_within};
+ghost use Rattle.kept_mirror.specs.Mirrorings.{FollowsAnswer, awaiting, new_mirroring, question_by};
+ghost use Rattle.desk_talks.specs.KeptConnections.{unsent_by};
 ghost use Rattle.wire.specs.Ranges.{IsFrame, IsId};
+ghost use Rattle.desk_talks.specs.declared.dialogue.ReceiveOutcome.TheVariants as came;
 
 use client::{await_request, log_request};
-use desk_talks::{AnswerOutcome, Dialogue, DialogueAction, Exchange, ReceiveOutcome};
-use log_follower::{FollowAction, FollowStage, Follower};
+use desk_talks::{
+    AnswerOutcome, ConnectionPhase, ConnectionStage, Dialogue, DialogueAction, KeptConnection,
+    ReceiveOutcome,
+};
+use log_follower::{AnswerWorth, FollowAction, Follower};
 use mirror::{Mirror, MirrorGrowth};
 use std::alloc::{AllocError, Global};
 use std::marker::Model;
@@ -20,15 +23,15 @@ use wire::{Entries, Frame, FrameBody};
 /// Keeps a mirror up with the desks of a hall. Its caller asks it again and again what is to be
 /// done (`act`), does it over one connection at a time, and says what came of it.
 ///
-/// A contract sees the number of the hall, the follower, the entries of the mirror, the talk over
-/// the connection, if one is open, and the id of a command that the desk is to be asked for next.
+/// A contract sees the number of the hall, the follower, the connection to the desk that is
+/// followed, the entries of the mirror, and the id of a command that the desk is to be asked for
+/// next.
 #[derive(Drop)]
 pub struct Mirroring {
-    alloc: Global,
     hall: u32,
     follower: Follower,
+    line: KeptConnection,
     mirror: Mirror,
-    talk: Option<Exchange>,
     awaits: Option<u64>,
 }
 
@@ -40,7 +43,7 @@ impl Model for Mirroring {
 
     ghost Value = { MirroringOf };
 
-    ghost view = { λ m. mirroring m.hall m.follower m.mirror m.talk m.awaits };
+    ghost view = { λ m. mirroring m.hall m.follower m.line m.mirror m.awaits };
 
     ghost invariant = { λ m. AreIds m.awaits };
 }
@@ -67,11 +70,10 @@ impl Mirroring {
         ensures { IfOk result (λ m. m ≡ new_mirroring hall desks) }
     {
         Ok(Mirroring {
-            alloc,
             hall,
-            follower: Follower::new(desks, 0),
+            follower: Follower::new(desks),
+            line: KeptConnection::new(alloc),
             mirror: Mirror::new(alloc)?,
-            talk: None,
             awaits: None,
         })
     }
@@ -92,18 +94,25 @@ impl Mirroring {
     }
 
     /// What the connection to it has come to.
-    pub fn stage(&self) -> FollowStage
-        ensures { result ≡ self.now.follower.stage }
+    pub fn stage(&self) -> ConnectionStage
+        ensures { result ≡ self.now.line.stage }
     {
-        self.follower.stage()
+        self.line.stage()
+    }
+
+    /// What the last answer was worth.
+    pub fn worth(&self) -> AnswerWorth
+        ensures { result ≡ self.now.follower.worth }
+    {
+        self.follower.worth()
     }
 
     /// In how many milliseconds something is to be done, if nothing comes: at most 2,000.
     pub fn wait(&self, now: u64) -> u64
-        ensures wait { result ≡ wait_of self.now.follower now }
+        ensures wait { result ≡ wait_of self.now now }
         ensures soon { result ≤ 2000 }
     {
-        self.follower.wait(now)
+        self.follower.wait(&self.line, now)
     }
 
     /// What the desk that is followed is asked: for a command, or for its log from the mirror's
@@ -120,27 +129,32 @@ impl Mirroring {
     }
 
     /// Asks the desk that is followed.
-    fn ask(&mut self) -> DialogueAction
-        ensures { Asks result self.old self.new }
+    fn ask(&mut self, now: u64) -> DialogueAction
+        ensures { Asks result now self.old self.new }
     {
         let question = self.question();
-        let asked = match &mut self.talk {
-            Some(talk) => talk.ask(self.alloc, question).is_ok(),
-            None => false,
-        };
-        if asked {
+        if self.line.ask(now, question) {
             self.awaits = None;
             return DialogueAction::Write;
         }
-        self.lost();
+        self.give_up();
         DialogueAction::Close
+    }
+
+    /// Closes the connection, if it is not closed yet, and follows the next desk.
+    fn give_up(&mut self)
+        ensures { self.new ≡ given_up self.old }
+    {
+        self.awaits = None;
+        self.follower.turn();
+        self.line.close();
     }
 
     /// Counts the connection as lost, since what came over it is no answer.
     fn fail(&mut self) -> ReceiveOutcome
         ensures { Fails result self.old self.new }
     {
-        self.lost();
+        self.give_up();
         ReceiveOutcome::NoAnswer
     }
 
@@ -184,7 +198,7 @@ impl Mirroring {
     {
         self.awaits = None;
         let held = self.mirror.len();
-        self.follower.answered(now, None, held, 0);
+        self.follower.answered(&mut self.line, now, None, held, 0);
         self.hurry();
         ReceiveOutcome::Answer { changed: false }
     }
@@ -196,7 +210,8 @@ impl Mirroring {
     {
         let taken = self.mirror.take(position, entries).ok();
         let held = self.mirror.len();
-        self.follower.answered(now, taken, held, len);
+        self.follower
+            .answered(&mut self.line, now, taken, held, len);
         ReceiveOutcome::Answer {
             changed: is_growth(taken),
         }
@@ -209,7 +224,7 @@ impl Mirroring {
     pub fn hurry(&mut self)
         ensures { self.new ≡ hurried self.old }
     {
-        self.follower.hurry();
+        self.follower.hurry(&mut self.line);
     }
 
     /// The same, and the next question is for this command, which the log does not have yet: the
@@ -225,8 +240,9 @@ impl Mirroring {
 }
 
 impl Dialogue for Mirroring {
-    ghost use Rattle.std.specs.Prelude.{◌≡◌};
-    ghost use Rattle.kept_mirror.specs.Mirrorings.{DialogueLeads, held, is_opening};
+    ghost use Rattle.std.specs.Prelude.{◌≡◌, List};
+    ghost use Rattle.kept_mirror.specs.Mirrorings.{DialogueLeads, held};
+    ghost use Rattle.desk_talks.specs.KeptConnections.{phase_of};
     ghost use Rattle.acceptor.specs.declared.entry.Entry.{Entry};
 
     ghost Held = { List Entry };
@@ -236,70 +252,55 @@ impl Dialogue for Mirroring {
 
     ghost leads = { DialogueLeads };
 
+    ghost phase = { λ m. phase_of m.line.stage };
+
+    ghost output = { λ m. unsent_by m.line.talking };
+
     fn act(&mut self, now: u64) -> DialogueAction {
-        match self.follower.act(now) {
+        match self.follower.act(&mut self.line, now) {
             FollowAction::Rest => DialogueAction::Rest,
             FollowAction::Open { desk } => DialogueAction::Open { desk },
-            FollowAction::Ask { .. } => self.ask(),
-            FollowAction::Close { .. } => {
-                self.talk = None;
-                DialogueAction::Close
-            }
+            FollowAction::Ask { .. } => self.ask(now),
+            FollowAction::Close { .. } => DialogueAction::Close,
             FollowAction::Stop => {
-                self.talk = None;
+                self.line.close();
                 DialogueAction::Stop
             }
         }
     }
 
-    fn is_opening(&self) -> bool
-        ensures { result ≡ is_opening self.now.follower.stage }
-    {
-        matches!(self.stage(), FollowStage::Opening { .. })
+    fn phase(&self) -> ConnectionPhase {
+        self.line.phase()
     }
 
     fn opened(&mut self) -> bool {
-        match Exchange::new(self.alloc) {
-            Ok(talk) => {
-                self.talk = Some(talk);
-                self.follower.opened();
-                true
-            }
-            Err(_) => {
-                self.lost();
-                false
-            }
+        if self.line.opened() {
+            return true;
         }
+        self.give_up();
+        false
     }
 
-    fn lost(&mut self)
+    fn lost(&mut self, _ended: bool)
         ensures { self.new ≡ lost self.old }
     {
-        self.talk = None;
-        self.awaits = None;
-        self.follower.lost();
+        if self.line.is_closed() {
+            self.awaits = None;
+        } else {
+            self.give_up();
+        }
     }
 
-    fn output(&self) -> &[u8]
-        ensures { result.now ≡ unsent_by self.now.talking }
-    {
-        match &self.talk {
-            Some(talk) => talk.output(),
-            None => &[],
-        }
+    fn output(&self) -> &[u8] {
+        self.line.output()
     }
 
     fn sent(&mut self, count: usize) {
-        if let Some(talk) = &mut self.talk {
-            talk.sent(count);
-        }
+        self.line.sent(count);
     }
 
     fn hear(&mut self, now: u64, piece: &[u8]) -> ReceiveOutcome {
-        let Some(talk) = &mut self.talk else {
-            return ReceiveOutcome::Nothing;
-        };
-        let heard = talk.hear(piece);
+        let heard = self.line.hear(piece);
         self.follow(now, heard)
     }
 }

@@ -1,9 +1,7 @@
 -- A text without the line feed at its end.
-use Rattle.std.proofs.Common.{◌≡◌, ℕ, ◌-◌, List, [], ◌∷◌, ◌++◌, length, take, get_or}
-use Rattle.std.proofs.Common.{cond}
-use Rattle.std.proofs.Common.{refl, ap, ◌∙◌, arith}
-use Rattle.std.proofs.lemmas.Bool.{eq-eqb}
-use Rattle.std.proofs.lemmas.List.{length-append, take_at}
+use Rattle.std.proofs.Common.{◌≡◌, ℕ, ◌-◌, List, [], ◌∷◌, ◌++◌, length, take, get_or, cond, refl}
+use Rattle.std.proofs.Common.{ap, ◌∙◌, arith}
+use Rattle.std.proofs.lemmas.{Bool.eq-eqb, List.length-append, List.take_at}
 use Rattle.keys.specs.Keys.{digits_of}
 
 at_end : (t : List ℕ) → get_or (t ++ 10 ∷ []) (length t) 0 ≡ 10

@@ -1,12 +1,11 @@
 -- A walk from the end of a log, for what was entered last for each of five attempts.
-use Rattle.std.proofs.Common.{◌≡◌, ◌<◌, ◌+◌, ℕ, zero, suc, Bool, true, false, List, [], ◌∷◌}
-use Rattle.std.proofs.Common.{length, get_or, map, Option, None, Some, inl, inr, refl, sym, subst}
-use Rattle.std.proofs.Common.{arith}
+use Rattle.std.proofs.Common.{◌≡◌, ◌<◌, ◌+◌, ℕ, zero, suc, Bool, true, false, List, [], ◌∷◌, length}
+use Rattle.std.proofs.Common.{get_or, map, Option, None, Some, inl, inr, refl, sym, subst, arith}
 use Rattle.std.proofs.lemmas.Bool.{cases_lt}
 use Rattle.acceptor.specs.declared.entry.Entry.{Entry}
 use Rattle.texts.specs.declared.command.RoundId.{RoundId}
-use Rattle.last_change.specs.Entering.{HasNoneFrom, IsLastFrom, all_last, enters_in}
-use Rattle.last_change.specs.Entering.{last_of, places}
+use Rattle.last_change.specs.Entering.{HasNoneFrom, IsLastFrom, all_last, enters_in, last_of}
+use Rattle.last_change.specs.Entering.{places}
 
 -- of each attempt, the last of the entries from a position on
 abbrev pub AreLastFrom : List Entry → RoundId → ℕ → ℕ → List (Option ℕ) → Type 0
@@ -51,14 +50,12 @@ pub all_more : (log : List Entry) (round : RoundId) (number from : ℕ) (later n
     → now ≡ all_last later enters from → from < length log
     → AreLastFrom log round number (from + 1) later → AreLastFrom log round number from now
 all_more log round number from later now enters are is within old =
-    let here : (place : ℕ) → place < 5
-    → IsLastFrom log round number place from
+    let here : (place : ℕ) → place < 5 → IsLastFrom log round number place from
     (last_of (get_or later place None) (enters_in log round number place from) from) =
     λ place low. one_more log round number place from (get_or later place None) _ refl within
     (old place low) in
     subst (AreLastFrom log round number from) (sym is)
     (subst (λ (them : List Bool). AreLastFrom log round number from (all_last later them from))
-    (sym are)
-    (five (λ place found. IsLastFrom log round number place from found) _ _ _ _ _
+    (sym are) (five (λ place found. IsLastFrom log round number place from found) _ _ _ _ _
     (here 0 (grind arith)) (here 1 (grind arith)) (here 2 (grind arith)) (here 3 (grind arith))
     (here 4 (grind arith))))

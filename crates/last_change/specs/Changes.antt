@@ -1,18 +1,14 @@
 -- Which entries of a log change the attempts of a competitor in a round (the project's own).
-use Rattle.std.specs.Prelude.{◌≡◌, ◌<◌, ◌≤◌, ◌+◌, ℕ, ◌==◌, ◌&&◌, Bool, true, false, List}
-use Rattle.std.specs.Prelude.{length, slice_get}
-use Rattle.std.specs.Prelude.{Option, None, Some, Result, Ok, Err}
+use Rattle.std.specs.Prelude.{◌≡◌, ◌<◌, ◌≤◌, ◌+◌, ℕ, ◌==◌, ◌&&◌, Bool, true, false, List, length}
+use Rattle.std.specs.Prelude.{slice_get, Option, None, Some, Result, Ok, Err}
 use Rattle.std.specs.Option.{option_map_or}
 use Rattle.acceptor.specs.declared.entry.Entry.{Entry}
 use Rattle.commands.specs.Accepted.{is_of}
 use Rattle.answers.specs.Transcripts.{answer_at}
-use Rattle.texts.specs.declared.answer.Answer.{Answer}
-use Rattle.texts.specs.declared.answer.Answer.TheVariants.{Done, Refused}
-use Rattle.texts.specs.declared.command.Command.{Command}
-use Rattle.texts.specs.declared.command.RemarkedCommand.{RemarkedCommand}
+use Rattle.texts.specs.declared.answer.Answer.{Answer, TheVariants.Done, TheVariants.Refused}
+use Rattle.texts.specs.declared.command.{Command.Command, RemarkedCommand.RemarkedCommand}
 use Rattle.texts.specs.declared.command.Command.TheVariants.{Attempt, Correct, Strike, Card, Fix}
-use Rattle.texts.specs.declared.command.RoundId.{RoundId}
-use Rattle.texts.specs.declared.reading.CommandFault.{CommandFault}
+use Rattle.texts.specs.declared.{command.RoundId.RoundId, reading.CommandFault.CommandFault}
 use Rattle.texts.specs.Reading.{command_of}
 
 -- a command that enters, corrects or strikes an attempt of the competitor in the round, or is a

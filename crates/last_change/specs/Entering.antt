@@ -5,15 +5,11 @@ use Rattle.std.specs.Prelude.{is_some, Option, None, Some, Result, Ok, Err}
 use Rattle.std.specs.Option.{option_and_then}
 use Rattle.acceptor.specs.declared.entry.Entry.{Entry}
 use Rattle.commands.specs.Accepted.{is_of}
-use Rattle.texts.specs.declared.command.AttemptEntry.{AttemptEntry}
-use Rattle.texts.specs.declared.command.CardEntry.{CardEntry}
-use Rattle.texts.specs.declared.command.Command.{Command}
+use Rattle.texts.specs.declared.command.{AttemptEntry.AttemptEntry, CardEntry.CardEntry}
+use Rattle.texts.specs.declared.command.{Command.Command, Entered.Entered, RoundId.RoundId}
 use Rattle.texts.specs.declared.command.Command.TheVariants.{Attempt, Correct, Card, Fix}
-use Rattle.texts.specs.declared.command.Entered.{Entered}
-use Rattle.texts.specs.declared.command.RemarkedCommand.{RemarkedCommand}
-use Rattle.texts.specs.declared.command.RoundId.{RoundId}
+use Rattle.texts.specs.{declared.command.RemarkedCommand.RemarkedCommand, Reading.command_of}
 use Rattle.texts.specs.declared.reading.CommandFault.{CommandFault}
-use Rattle.texts.specs.Reading.{command_of}
 use Rattle.last_change.specs.Changes.{is_accepted}
 
 -- ---- what a command enters for the attempt at a place, counted from 0
@@ -79,8 +75,7 @@ IsLastEntering log round number place found = IsLastFrom log round number place 
 -- the same of each of the first attempts, this many
 abbrev pub AreLastEntering : List Entry → RoundId → ℕ → ℕ → List (Option ℕ) → Type 0
 AreLastEntering log round number stands found =
-    (place : ℕ) → place < stands
-    → IsLastEntering log round number place (get_or found place None)
+    (place : ℕ) → place < stands → IsLastEntering log round number place (get_or found place None)
 
 -- ---- what is done of one entry
 

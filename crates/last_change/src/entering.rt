@@ -1,9 +1,7 @@
 //! What was entered last for the attempts of a competitor.
 
 ghost use Rattle.std.specs.Prelude.{◌≡◌, ◌<◌, ◌≤◌, IfOk, is_some, map, slice_get, take, unwrap_or};
-ghost use Rattle.std.specs.Prelude.{None as Nothing};
-ghost use Rattle.std.specs.List.{list_all};
-ghost use Rattle.std.specs.Option.{option_copied};
+ghost use Rattle.std.specs.{Prelude.None as Nothing, List.list_all, Option.option_copied};
 ghost use Rattle.texts.specs.Reading.{command_of};
 ghost use Rattle.last_change.specs.Entering.{AreLastEntering, all_last, entered_at, entered_by};
 ghost use Rattle.last_change.specs.Entering.{entered_on, entered_told, enters_in, last_of, places};

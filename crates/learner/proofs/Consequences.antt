@@ -2,15 +2,12 @@
 use Rattle.std.proofs.Common.{◌≡◌, ℕ, zero, suc, ◌⊎◌, inl, inr, List, [], ◌∷◌, ◌++◌, Some}
 use Rattle.std.proofs.Common.{slice_get, take, drop, refl, sym, ap, ◌∙◌, subst, length, ◌<◌, ◌≤◌}
 use Rattle.std.proofs.Common.{arith, take-append-drop}
-use Rattle.learner.proofs.Grows.{chosen_grows}
-use Rattle.learner.proofs.Agree.{one_chosen}
+use Rattle.learner.proofs.{Grows.chosen_grows, Agree.one_chosen}
 use Rattle.learner.proofs.Runs.{after_sound, run_more, run_log, run_append}
 use Rattle.acceptor.specs.declared.entry.Entry.{Entry}
-use Rattle.learner.specs.declared.event.WorldEvent.{WorldEvent}
+use Rattle.learner.specs.{declared.event.WorldEvent.WorldEvent, Chosen.IsChosen, Laws.IsPrefix}
 use Rattle.learner.specs.Worlds.{World, new_world, run, after, log_of}
-use Rattle.learner.specs.Chosen.{IsChosen}
 use Rattle.learner.specs.Laws.{LogsAreChosen, OneIsChosen, LogsAgree, LogsGrow, EntriesStay}
-use Rattle.learner.specs.Laws.{IsPrefix}
 
 pub logs_are_chosen : LogsAreChosen
 logs_are_chosen n events d pos e h = ((after_sound n events).desks d).log pos e h
@@ -48,8 +45,7 @@ chosen_early n events i pos e h =
 
 pub logs_agree : LogsAgree
 logs_agree n events i j d k =
-    prefix_from_same (log_of n (take i events) d) (log_of n (take j events) k)
-    (λ p e f a b.
+    prefix_from_same (log_of n (take i events) d) (log_of n (take j events) k) (λ p e f a b.
     one_is_chosen n events p e f
     (chosen_early n events i p e (logs_are_chosen n (take i events) d p e a))
     (chosen_early n events j p f (logs_are_chosen n (take j events) k p f b)))

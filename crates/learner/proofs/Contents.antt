@@ -1,43 +1,33 @@
 -- Where the entries and the ballots in desks and messages come from: a walk over the steps, for any
 -- property of entries and any of ballots.
-use Rattle.std.proofs.Common.{take, drop, ◌≡◌, ℕ, ◌+◌, ◌≤◌, max, nat_lt, Bool, true, false}
-use Rattle.std.proofs.Common.{if◌then◌else◌, ◌==◌, List, [], ◌∷◌, ◌++◌, ◌⊎◌, inl, inr, Option, Some}
-use Rattle.std.proofs.Common.{None, Result, Ok, Err, length, slice_get, refl, subst, arith, zero}
-use Rattle.std.proofs.Common.{suc}
+use Rattle.std.proofs.Common.{take, false, Option, Result, length, slice_get, drop, ℕ, Bool, true}
+use Rattle.std.proofs.Common.{◌==◌, List, ◌++◌, Some, None, refl, subst, arith, ◌≡◌, ◌+◌, ◌≤◌, []}
+use Rattle.std.proofs.Common.{◌∷◌, ◌⊎◌, inl, inr, Ok, Err, zero, suc}
 use Rattle.std.proofs.lemmas.Bool.Decides.{nat_tests}
-use Rattle.acceptor.specs.declared.ballot.Ballot.{Ballot}
-use Rattle.acceptor.specs.Ballots.{is_below, is_same, no_ballot}
-use Rattle.acceptor.specs.declared.entry.Entry.{Entry}
-use Rattle.acceptor.specs.declared.message.Report.{Report}
-use Rattle.acceptor.specs.declared.message.Body.{Body}
-use Rattle.acceptor.specs.declared.message.Message.{Message}
+use Rattle.acceptor.specs.declared.{ballot.Ballot.Ballot, entry.Entry.Entry}
+use Rattle.acceptor.specs.{Ballots.is_below, Ballots.no_ballot, Storing.log_after}
+use Rattle.acceptor.specs.{Storing.stored_after, Answers.accept_reply}
+use Rattle.acceptor.specs.declared.message.{Report.Report, Body.Body, Message.Message}
 use Rattle.acceptor.specs.Messages.{message, has, desks_from, without, to_each, to_others}
 use Rattle.acceptor.specs.declared.message.Body.TheVariants.{Prepare, Promise, Accept, Accepted}
 use Rattle.acceptor.specs.declared.message.Body.TheVariants.{Nack, Behind, Decided}
-use Rattle.acceptor.specs.declared.stored.Vote.{Vote}
-use Rattle.proposer.specs.declared.role.PromisingDesk.{PromisingDesk}
-use Rattle.proposer.specs.declared.role.Role.{Role}
-use Rattle.learner.specs.Desks.{Desk, adopt, passing}
-use Rattle.acceptor.specs.declared.stored.Change.{Change}
+use Rattle.acceptor.specs.declared.stored.{Vote.Vote, Change.Change}
+use Rattle.proposer.specs.declared.role.{PromisingDesk.PromisingDesk, Role.Role}
+use Rattle.learner.specs.{Desks.Desk, Desks.adopt, Desks.passing, Steps.answered, Steps.on_body}
 use Rattle.proposer.specs.Plans.{role_after, queue_after, only_say, become, append}
-use Rattle.proposer.specs.declared.plan.Plan.{Plan}
-use Rattle.acceptor.specs.Storing.{stored_after, log_after}
-use Rattle.proposer.specs.declared.role.Role.TheVariants.{Idle, Gathering, Proposing, Leading}
+use Rattle.proposer.specs.declared.{plan.Plan.Plan, fault.Refusal.Refusal}
+use Rattle.proposer.specs.declared.role.Role.TheVariants.{Gathering, Proposing, Leading}
 use Rattle.acceptor.specs.declared.stored.Change.TheVariants.{Promised, Voted, Tried, Appended}
-use Rattle.acceptor.specs.Answers.{Reply, reported, elsewhere, prepare_here, prepare_reply}
-use Rattle.acceptor.specs.Answers.{accept_here, accept_reply}
-use Rattle.proposer.specs.Proposing.{is_full, is_majority, last_number, gather, new_ballot}
-use Rattle.proposer.specs.Proposing.{is_outbid, ask_next, lead, start, start_by_role, wants_ballot}
-use Rattle.proposer.specs.Proposing.{tell_length, tick_idle, tick, tick_by_role, was_heard, higher}
-use Rattle.proposer.specs.Proposing.{highest, choice, propose, promises_heard, promise_by_role}
-use Rattle.proposer.specs.Proposing.{on_promise, votes_heard, accepted_by_role, on_accepted}
-use Rattle.proposer.specs.Proposing.{is_ballot_of, on_nack}
-use Rattle.proposer.specs.declared.fault.Refusal.{Refusal}
-use Rattle.proposer.specs.declared.fault.Refusal.TheVariants.{LogFull, BallotsSpent}
+use Rattle.acceptor.specs.Answers.{Reply, reported, elsewhere, prepare_reply}
+use Rattle.proposer.specs.Proposing.{ask_next, on_promise, is_majority, promises_heard, last_number}
+use Rattle.proposer.specs.Proposing.{new_ballot, on_accepted, tick, higher, highest, choice}
+use Rattle.proposer.specs.Proposing.{propose, on_nack, start, ask}
 use Rattle.learner.specs.Learning.{on_decided, on_behind, told, longest_run}
 use Rattle.learner.specs.Contents.{ListHolds, ReportHolds, BodyHolds, MessagesHold, VoteHolds}
 use Rattle.learner.specs.Contents.{HeardHolds, RoleHolds, DeskHolds}
-use Rattle.learner.specs.Steps.{answered, on_body}
+use Rattle.learner.proofs.Cases.{by_test, prepare_cases, accept_cases, promise_cases}
+use Rattle.learner.proofs.Cases.{accepted_cases, nack_cases, decided_cases, behind_cases}
+use Rattle.learner.proofs.Cases.{ballot_cases, start_cases, tick_cases}
 
 abbrev pub ChangeHolds : (Entry → Type 0) → (Ballot → Type 0) → Option Change → Type 0
 ChangeHolds P Q None = Unit {0}
@@ -57,11 +47,8 @@ pub record PlanHolds (P : Entry → Type 0) (Q : Ballot → Type 0) (p : Plan) :
 
 -- a ballot that the change makes
 abbrev pub Fits : (Ballot → Type 0) → ℕ → Option Change → Type 0
-Fits Q d None = Unit {0}
-Fits Q d (Some (Promised b)) = Unit {0}
-Fits Q d (Some (Voted v)) = Unit {0}
 Fits Q d (Some (Tried r)) = 1 ≤ r → Q (record { number = r; desk = d })
-Fits Q d (Some (Appended e)) = Unit {0}
+Fits Q d _ = Unit {0}
 
 pub push_holds : (P : Entry → Type 0) (xs : List Entry) (e : Entry) → ListHolds P xs → P e
     → ListHolds P (xs ++ e ∷ [])
@@ -80,8 +67,7 @@ messages_append P Q [] ys h k = k
 messages_append P Q (x ∷ xs) ys h k = (h.0, messages_append P Q xs ys h.1 k)
 
 pub message_at : (P : Entry → Type 0) (Q : Ballot → Type 0) (xs : List Message) (k : ℕ)
-    (m : Message)
-    → MessagesHold P Q xs → slice_get xs k ≡ Some m → BodyHolds P Q m.body
+    (m : Message) → MessagesHold P Q xs → slice_get xs k ≡ Some m → BodyHolds P Q m.body
 message_at P Q [] k m h i = absurd cc
 message_at P Q (x ∷ xs) zero m h i =
     let same : x ≡ m = cc in subst (λ (f : Message). BodyHolds P Q f.body) same h.0
@@ -159,20 +145,21 @@ abbrev AreReal : (Ballot → Type 0) → Type 0
 AreReal Q = (b : Ballot) → Q b → 1 ≤ b.number
 
 prepare_holds : (P : Entry → Type 0) (Q : Ballot → Type 0) → AreReal Q
-    → (d : ℕ) (x : Desk) (from : ℕ) (b : Ballot) (pos : ℕ) → DeskHolds P Q x → Q b
-    → PlanHolds P Q
+    → (d : ℕ) (x : Desk) (from : ℕ) (b : Ballot) (pos : ℕ) → DeskHolds P Q x → Q b → PlanHolds P Q
     (answered d x from (prepare_reply x.stored (length x.log) (slice_get x.log pos) b pos))
-prepare_holds P Q real d x from b pos h q = go (pos == length x.log)
+prepare_holds P Q real d x from b pos h q =
+    prepare_cases (λ r. PlanHolds P Q (answered d x from r)) x.stored (length x.log)
+    (slice_get x.log pos) b pos (elsewhere_holds P Q d x from pos h) (λ same e. record {
+      role = tt;
+      change = q;
+      messages = ((q, vote x.stored.vote h.vote), tt);
+    }) (λ e. record { role = tt; change = tt; messages = ((q, higher_holds h.promised e), tt) })
   where
     vote : (v : Option Vote) → VoteHolds P Q v → ReportHolds P Q (reported v pos)
     vote None i = tt
-    vote (Some v) i = at (v.pos == pos)
-      where
-        at : (t : Bool)
-            → ReportHolds P Q
-            (if t then Some (record { ballot = v.ballot; entry = v.entry }) else None)
-        at true = i
-        at false = tt
+    vote (Some v) i =
+        by_test (ReportHolds P Q) (v.pos == pos)
+        (Some (record { ballot = v.ballot; entry = v.entry })) None (λ t. i) (λ t. tt)
 
     higher_holds : (x.stored.promised ≡ no_ballot) ⊎ Q x.stored.promised
         → is_below x.stored.promised b ≡ false → Q x.stored.promised
@@ -182,29 +169,15 @@ prepare_holds P Q real d x from b pos h q = go (pos == length x.log)
         absurd (grind (arith, nat_tests))
     higher_holds (inr i) t = i
 
-    due : (t : Bool) → is_below x.stored.promised b ≡ t
-        → PlanHolds P Q
-        (answered d x from
-        (if t
-        then
-        record { change = Some (Promised b); body = Promise b pos (reported x.stored.vote pos) }
-        else record { change = None; body = Nack b pos x.stored.promised }))
-    due true e = record { role = tt; change = q; messages = ((q, vote x.stored.vote h.vote), tt) }
-    due false e = record { role = tt; change = tt; messages = ((q, higher_holds h.promised e), tt) }
-
-    go : (t : Bool)
-        → PlanHolds P Q
-        (answered d x from
-        (if t then prepare_here x.stored b pos
-        else elsewhere (slice_get x.log pos) (length x.log) pos))
-    go true = due (is_below x.stored.promised b) refl
-    go false = elsewhere_holds P Q d x from pos h
-
 accept_holds : (P : Entry → Type 0) (Q : Ballot → Type 0) → AreReal Q
     → (d : ℕ) (x : Desk) (from : ℕ) (b : Ballot) (pos : ℕ) (e : Entry) → DeskHolds P Q x → Q b → P e
     → PlanHolds P Q
     (answered d x from (accept_reply x.stored (length x.log) (slice_get x.log pos) b pos e))
-accept_holds P Q real d x from b pos e h q k = go (pos == length x.log)
+accept_holds P Q real d x from b pos e h q k =
+    accept_cases (λ r. PlanHolds P Q (answered d x from r)) x.stored (length x.log)
+    (slice_get x.log pos) b pos e (elsewhere_holds P Q d x from pos h)
+    (λ f. record { role = tt; change = tt; messages = ((q, higher_holds h.promised f), tt) })
+    (λ same f. record { role = tt; change = (q, k); messages = (q, tt) })
   where
     higher_holds : (x.stored.promised ≡ no_ballot) ⊎ Q x.stored.promised
         → is_below b x.stored.promised ≡ true → Q x.stored.promised
@@ -213,28 +186,8 @@ accept_holds P Q real d x from b pos e h q k = go (pos == length x.log)
         absurd (grind (arith, nat_tests))
     higher_holds (inr i) t = i
 
-    due : (t : Bool) → is_below b x.stored.promised ≡ t
-        → PlanHolds P Q (answered d x from (if t
-        then record { change = None; body = Nack b pos x.stored.promised }
-        else record {
-          change =
-              Some (Voted (record { pos = pos; ballot = b; entry = e }));
-          body = Accepted b pos;
-        }))
-    due true f = record { role = tt; change = tt; messages = ((q, higher_holds h.promised f), tt) }
-    due false f = record { role = tt; change = (q, k); messages = (q, tt) }
-
-    go : (t : Bool)
-        → PlanHolds P Q
-        (answered d x from
-        (if t then accept_here x.stored b pos e
-        else elsewhere (slice_get x.log pos) (length x.log) pos))
-    go true = due (is_below b x.stored.promised) refl
-    go false = elsewhere_holds P Q d x from pos h
-
 highest_holds : (P : Entry → Type 0) (Q : Ballot → Type 0) (hs : List PromisingDesk)
-    → HeardHolds P Q hs
-    → ReportHolds P Q (highest hs)
+    → HeardHolds P Q hs → ReportHolds P Q (highest hs)
 highest_holds P Q [] h = tt
 highest_holds P Q (x ∷ hs) h = two x.vote (highest hs) h.0 (highest_holds P Q hs h.1)
   where
@@ -242,194 +195,70 @@ highest_holds P Q (x ∷ hs) h = two x.vote (highest hs) h.0 (highest_holds P Q 
         → ReportHolds P Q (higher v w)
     two None w i j = j
     two (Some r) None i j = i
-    two (Some r) (Some s) i j = at (is_below r.ballot s.ballot)
-      where
-        at : (t : Bool) → ReportHolds P Q (if t then Some s else Some r)
-        at true = j
-        at false = i
+    two (Some r) (Some s) i j =
+        by_test (ReportHolds P Q) (is_below r.ballot s.ballot) (Some s) (Some r) (λ t. j) (λ t. i)
+
+ask_holds : (P : Entry → Type 0) (Q : Ballot → Type 0) (n d : ℕ) (x : Desk) (b : Ballot) (pos : ℕ)
+    (e : Entry) → Q b × P e → PlanHolds P Q (ask n d (passing x) b pos e)
+ask_holds P Q n d x b pos e k =
+    record {
+      role = k;
+      change = tt;
+      messages = each_holds P Q d (desks_from 1 n) (Accept b pos e) k;
+    }
 
 promise_holds : (P : Entry → Type 0) (Q : Ballot → Type 0) (n d : ℕ) (x : Desk) (from : ℕ)
-    (b : Ballot) (pos : ℕ) (vote : Option Report)
-    → DeskHolds P Q x → ReportHolds P Q vote
+    (b : Ballot) (pos : ℕ) (vote : Option Report) → DeskHolds P Q x → ReportHolds P Q vote
     → PlanHolds P Q (on_promise n d (passing x) from b pos vote)
-promise_holds P Q n d x from b pos vote h v = by_role x.role h.role
+promise_holds P Q n d x from b pos vote h v =
+    promise_cases (PlanHolds P Q) n d (passing x) from b pos vote (nothing P Q x)
+    (λ own at heard e i same new.
+    let k : Q own × HeardHolds P Q heard = subst (λ (r : Role). RoleHolds P Q r) e h.role in
+    all_heard own at (record { desk = from; vote = vote } ∷ heard) k.0 (v, k.1))
   where
-    by_role : (r : Role) → RoleHolds P Q r
-        → PlanHolds P Q (promise_by_role n d (passing x) r from b pos vote)
-    by_role Idle k = nothing P Q x
-    by_role (Proposing own at e heard) k = nothing P Q x
-    by_role (Leading own) k = nothing P Q x
-    by_role (Gathering own at heard) k = same (is_same own b)
-      where
-        chosen : (top : Option Report) → ReportHolds P Q top → (queue : List Entry)
-            → ListHolds P queue → PlanHolds P Q (propose n d (passing x) own at (choice top queue))
-        chosen (Some r) i queue j =
-            record {
-              role = (k.0, i.1);
-              change = tt;
-              messages = each_holds P Q d (desks_from 1 n) (Accept own at r.entry) (k.0, i.1);
-            }
-        chosen None i (e ∷ es) j =
-            record {
-              role = (k.0, j.0);
-              change = tt;
-              messages = each_holds P Q d (desks_from 1 n) (Accept own at e) (k.0, j.0);
-            }
-        chosen None i [] j = record { role = tt; change = tt; messages = tt }
+    chosen : (own : Ballot) (at : ℕ) → Q own → (top : Option Report) → ReportHolds P Q top
+        → (queue : List Entry) → ListHolds P queue
+        → PlanHolds P Q (propose n d (passing x) own at (choice top queue))
+    chosen own at q (Some r) i queue j = ask_holds P Q n d x own at r.entry (q, i.1)
+    chosen own at q None i (e ∷ es) j = ask_holds P Q n d x own at e (q, j.0)
+    chosen own at q None i [] j = record { role = tt; change = tt; messages = tt }
 
-        many : (hs : List PromisingDesk) → HeardHolds P Q hs → (t : Bool)
-            → PlanHolds P Q
-            (if t then propose n d (passing x) own at (choice (highest hs) x.queue)
-            else become (passing x) (Gathering own at hs) [])
-        many hs i true = chosen (highest hs) (highest_holds P Q hs i) x.queue h.queue
-        many hs i false = record { role = (k.0, i); change = tt; messages = tt }
-
-        new : (t : Bool)
-            → PlanHolds P Q
-            (if t then only_say (passing x) []
-            else promises_heard n d (passing x) own at
-            (record { desk = from; vote = vote } ∷ heard))
-        new true = nothing P Q x
-        new false =
-            many (record { desk = from; vote = vote } ∷ heard) (v, k.1)
-            (is_majority n (length (record { desk = from; vote = vote } ∷ heard)))
-
-        place : (t : Bool)
-            → PlanHolds P Q
-            (if t
-            then
-            (if was_heard heard from then only_say (passing x) []
-            else promises_heard n d (passing x) own at
-            (record { desk = from; vote = vote } ∷ heard))
-            else only_say (passing x) [])
-        place true = new (was_heard heard from)
-        place false = nothing P Q x
-
-        same : (t : Bool)
-            → PlanHolds P Q
-            (if t
-            then
-            (if at == pos
-            then
-            (if was_heard heard from then only_say (passing x) []
-            else promises_heard n d (passing x) own at
-            (record { desk = from; vote = vote } ∷ heard))
-            else only_say (passing x) [])
-            else only_say (passing x) [])
-        same true = place (at == pos)
-        same false = nothing P Q x
+    all_heard : (own : Ballot) (at : ℕ) (hs : List PromisingDesk) → Q own → HeardHolds P Q hs
+        → PlanHolds P Q (promises_heard n d (passing x) own at hs)
+    all_heard own at hs q i =
+        by_test (PlanHolds P Q) (is_majority n (length hs))
+        (propose n d (passing x) own at (choice (highest hs) x.queue))
+        (become (passing x) (Gathering own at hs) [])
+        (λ t. chosen own at q (highest hs) (highest_holds P Q hs i) x.queue h.queue)
+        (λ t. record { role = (q, i); change = tt; messages = tt })
 
 accepted_holds : (P : Entry → Type 0) (Q : Ballot → Type 0) (n d : ℕ) (x : Desk) (from : ℕ)
     (b : Ballot) (pos : ℕ)
     → DeskHolds P Q x → PlanHolds P Q (on_accepted n d (passing x) from b pos)
-accepted_holds P Q n d x from b pos h = by_role x.role h.role
-  where
-    by_role : (r : Role) → RoleHolds P Q r
-        → PlanHolds P Q (accepted_by_role n d (passing x) r from b pos)
-    by_role Idle k = nothing P Q x
-    by_role (Gathering own at heard) k = nothing P Q x
-    by_role (Leading own) k = nothing P Q x
-    by_role (Proposing own at e heard) k = same (is_same own b)
-      where
-        many : (hs : List ℕ) → (t : Bool)
-            → PlanHolds P Q
-            (if t then append (passing x) e (Leading own) (to_others n d (Decided at e))
-            else become (passing x) (Proposing own at e hs) [])
-        many hs true =
-            record {
-              role = k.0;
-              change = k.1;
-              messages = each_holds P Q d (without (desks_from 1 n) (d ∷ [])) (Decided at e) k.1;
-            }
-        many hs false = record { role = k; change = tt; messages = tt }
-
-        new : (t : Bool)
-            → PlanHolds P Q
-            (if t then only_say (passing x) []
-            else votes_heard n d (passing x) own at e (from ∷ heard))
-        new true = nothing P Q x
-        new false = many (from ∷ heard) (is_majority n (length (from ∷ heard)))
-
-        place : (t : Bool)
-            → PlanHolds P Q
-            (if t
-            then
-            (if has heard from then only_say (passing x) []
-            else votes_heard n d (passing x) own at e (from ∷ heard))
-            else only_say (passing x) [])
-        place true = new (has heard from)
-        place false = nothing P Q x
-
-        same : (t : Bool)
-            → PlanHolds P Q
-            (if t
-            then
-            (if at == pos
-            then
-            (if has heard from then only_say (passing x) []
-            else votes_heard n d (passing x) own at e (from ∷ heard))
-            else only_say (passing x) [])
-            else only_say (passing x) [])
-        same true = place (at == pos)
-        same false = nothing P Q x
+accepted_holds P Q n d x from b pos h =
+    accepted_cases (PlanHolds P Q) n d (passing x) from b pos (nothing P Q x)
+    (λ own at e heard is i same new.
+    let k : Q own × P e = subst (λ (r : Role). RoleHolds P Q r) is h.role in
+    by_test (PlanHolds P Q) (is_majority n (length (from ∷ heard)))
+    (append (passing x) e (Leading own) (to_others n d (Decided at e)))
+    (become (passing x) (Proposing own at e (from ∷ heard)) []) (λ t. record {
+      role = k.0;
+      change = k.1;
+      messages = each_holds P Q d (without (desks_from 1 n) (d ∷ [])) (Decided at e) k.1;
+    }) (λ t. record { role = k; change = tt; messages = tt }))
 
 nack_holds : (P : Entry → Type 0) (Q : Ballot → Type 0) (x : Desk) (b promised : Ballot)
     → PlanHolds P Q (on_nack (passing x) b promised)
-nack_holds P Q x b promised = mine (is_ballot_of x.role b)
-  where
-    higher_holds : (t : Bool)
-        → PlanHolds P Q
-        (if t
-        then
-        record {
-          role = Some Idle;
-          seen = max x.seen promised.number;
-          drop_first = false;
-          change = None;
-          messages = [];
-        }
-        else only_say (passing x) [])
-    higher_holds true = record { role = tt; change = tt; messages = tt }
-    higher_holds false = nothing P Q x
-
-    mine : (t : Bool)
-        → PlanHolds P Q
-        (if t
-        then
-        (if is_below b promised
-        then
-        record {
-          role = Some Idle;
-          seen = max x.seen promised.number;
-          drop_first = false;
-          change = None;
-          messages = [];
-        }
-        else only_say (passing x) [])
-        else only_say (passing x) [])
-    mine true = higher_holds (is_below b promised)
-    mine false = nothing P Q x
+nack_holds P Q x b promised =
+    nack_cases (PlanHolds P Q) (passing x) b promised (nothing P Q x)
+    (record { role = tt; change = tt; messages = tt })
 
 decided_holds : (P : Entry → Type 0) (Q : Ballot → Type 0) (d : ℕ) (x : Desk) (from pos : ℕ)
-    (e : Entry)
-    → P e → PlanHolds P Q (on_decided d x.log (passing x) from pos e)
-decided_holds P Q d x from pos e k = at (pos == length x.log)
-  where
-    past : (t : Bool)
-        → PlanHolds P Q
-        (if t then only_say (passing x) (message d from (Behind (length x.log)) ∷ [])
-        else only_say (passing x) [])
-    past true = record { role = tt; change = tt; messages = (tt, tt) }
-    past false = nothing P Q x
-
-    at : (t : Bool) → PlanHolds P Q (if t
-        then append (passing x) e Idle (message d from (Behind (length x.log + 1)) ∷ [])
-        else
-        (if nat_lt (length x.log) pos
-        then only_say (passing x) (message d from (Behind (length x.log)) ∷ [])
-        else only_say (passing x) []))
-    at true = record { role = tt; change = k; messages = (tt, tt) }
-    at false = past (nat_lt (length x.log) pos)
+    (e : Entry) → P e → PlanHolds P Q (on_decided d x.log (passing x) from pos e)
+decided_holds P Q d x from pos e k =
+    decided_cases (PlanHolds P Q) d x.log (passing x) from pos e (nothing P Q x)
+    (record { role = tt; change = tt; messages = (tt, tt) })
+    (λ same. record { role = tt; change = k; messages = (tt, tt) })
 
 told_holds : (P : Entry → Type 0) (Q : Ballot → Type 0) (d from pos : ℕ) (es : List Entry)
     → ListHolds P es → MessagesHold P Q (told d from pos es)
@@ -450,21 +279,15 @@ drop_holds P (suc m) (e ∷ es) h = drop_holds P m es h.1
 
 behind_holds : (P : Entry → Type 0) (Q : Ballot → Type 0) (d : ℕ) (x : Desk) (from len : ℕ)
     → DeskHolds P Q x → PlanHolds P Q (on_behind d x.log (passing x) from len)
-behind_holds P Q d x from len h = go (nat_lt (length x.log) len)
-  where
-    go : (t : Bool)
-        → PlanHolds P Q
-        (if t then only_say (passing x) (message d from (Behind (length x.log)) ∷ [])
-        else only_say (passing x) (told d from len (take longest_run (drop len x.log))))
-    go true = record { role = tt; change = tt; messages = (tt, tt) }
-    go false =
-        record {
-          role = tt;
-          change = tt;
-          messages =
-              told_holds P Q d from len (take longest_run (drop len x.log))
-              (take_holds P longest_run (drop len x.log) (drop_holds P len x.log h.log));
-        }
+behind_holds P Q d x from len h =
+    behind_cases (PlanHolds P Q) d x.log (passing x) from len
+    (record { role = tt; change = tt; messages = (tt, tt) }) (λ t. record {
+      role = tt;
+      change = tt;
+      messages =
+          told_holds P Q d from len (take longest_run (drop len x.log))
+          (take_holds P longest_run (drop len x.log) (drop_holds P len x.log h.log));
+    })
 
 -- what comes with a message of such contents
 pub body_holds : (P : Entry → Type 0) (Q : Ballot → Type 0) → AreReal Q
@@ -488,125 +311,51 @@ abbrev pub ResultFits : (Ballot → Type 0) → ℕ → Result Plan Refusal → 
 ResultFits Q d (Ok p) = Fits Q d p.change
 ResultFits Q d (Err why) = Unit {0}
 
+-- where the ballot that it may make fits, all of it holds
+abbrev pub Fitting : (Entry → Type 0) → (Ballot → Type 0) → ℕ → Result Plan Refusal → Type 0
+Fitting P Q d r = ResultFits Q d r → ResultHolds P Q r
+
 ballot_holds : (P : Entry → Type 0) (Q : Ballot → Type 0) (n d : ℕ) (x : Desk)
-    → ResultFits Q d (new_ballot n d x.stored (length x.log) (passing x))
-    → ResultHolds P Q (new_ballot n d x.stored (length x.log) (passing x))
-ballot_holds P Q n d x = go (last_number x.stored (passing x) == 4294967295)
-  where
-    go : (t : Bool)
-        → ResultFits Q d
-        (if t then Err BallotsSpent
-        else Ok
-        (gather n d x.stored (length x.log) (passing x) (last_number x.stored (passing x) + 1)))
-        → ResultHolds P Q
-        (if t then Err BallotsSpent
-        else Ok
-        (gather n d x.stored (length x.log) (passing x) (last_number x.stored (passing x) + 1)))
-    go true f = tt
-    go false f =
-        let q : Q (record { number = last_number x.stored (passing x) + 1; desk = d }) =
-        f (omega arith) in
-        record {
-          role = (q, tt);
-          change = tt;
-          messages =
-              each_holds P Q d (desks_from 1 n)
-              (Prepare (record { number = last_number x.stored (passing x) + 1; desk = d })
-              (length x.log))
-              q;
-        }
+    → Fitting P Q d (new_ballot n d x.stored (length x.log) (passing x))
+ballot_holds P Q n d x =
+    ballot_cases (Fitting P Q d) n d x.stored (length x.log) (passing x) (λ f. tt) (λ f.
+    let own : Ballot =
+    record { number = last_number x.stored (passing x) + 1; desk = d } in
+    let q : Q own = f (omega arith) in
+    record {
+      role = (q, tt);
+      change = tt;
+      messages = each_holds P Q d (desks_from 1 n) (Prepare own (length x.log)) q;
+    })
 
 -- a desk that leads asks for votes for the first of its queue
 ask_next_holds : (P : Entry → Type 0) (Q : Ballot → Type 0) (n d : ℕ) (x : Desk) (b : Ballot)
     → Q b → (queue : List Entry) → ListHolds P queue
     → PlanHolds P Q (ask_next n d (length x.log) (passing x) b queue)
 ask_next_holds P Q n d x b q [] h = nothing P Q x
-ask_next_holds P Q n d x b q (e ∷ es) h =
-    record {
-      role = (q, h.0);
-      change = tt;
-      messages = each_holds P Q d (desks_from 1 n) (Accept b (length x.log) e) (q, h.0);
-    }
-
--- where the ballot that it may make fits, all of it holds
-abbrev Fitting : (Entry → Type 0) → (Ballot → Type 0) → ℕ → Result Plan Refusal → Type 0
-Fitting P Q d r = ResultFits Q d r → ResultHolds P Q r
-
-abbrev made : ℕ → ℕ → Desk → Result Plan Refusal
-made n d x = new_ballot n d x.stored (length x.log) (passing x)
-
-abbrev asked : ℕ → ℕ → Desk → Ballot → Plan
-asked n d x b = ask_next n d (length x.log) (passing x) b x.queue
-
-abbrev told_length : ℕ → ℕ → Desk → Plan
-told_length n d x = tell_length n d (length x.log) (passing x)
+ask_next_holds P Q n d x b q (e ∷ es) h = ask_holds P Q n d x b (length x.log) e (q, h.0)
 
 pub start_holds : (P : Entry → Type 0) (Q : Ballot → Type 0) (n d : ℕ) (x : Desk) → DeskHolds P Q x
     → Fitting P Q d (start n d x.stored (length x.log) (passing x))
-start_holds P Q n d x h = by_role x.role h.role
-  where
-    full : (t : Bool) → Fitting P Q d (if t then Err LogFull else made n d x)
-    full true f = tt
-    full false f = ballot_holds P Q n d x f
-
-    leads : (b : Ballot) → Q b → (t : Bool)
-        → Fitting P Q d (if t then made n d x else Ok (asked n d x b))
-    leads b q true f = ballot_holds P Q n d x f
-    leads b q false f = ask_next_holds P Q n d x b q x.queue h.queue
-
-    full_leads : (b : Ballot) → Q b → (t : Bool)
-        → Fitting P Q d
-        (if t then Err LogFull else lead n d x.stored (length x.log) (passing x) b)
-    full_leads b q true f = tt
-    full_leads b q false f = leads b q (is_outbid x.stored b) f
-
-    by_role : (r : Role) → RoleHolds P Q r
-        → Fitting P Q d (start_by_role n d x.stored (length x.log) (passing x) r)
-    by_role Idle k f = full (is_full (length x.log)) f
-    by_role (Gathering b pos heard) k f = nothing P Q x
-    by_role (Proposing b pos e heard) k f = nothing P Q x
-    by_role (Leading b) k f = full_leads b k (is_full (length x.log)) f
+start_holds P Q n d x h =
+    start_cases (Fitting P Q d) n d x.stored (length x.log) (passing x) (λ f. tt)
+    (λ f. nothing P Q x) (λ t. ballot_holds P Q n d x) (λ b e t f.
+    ask_next_holds P Q n d x b (subst (λ (r : Role). RoleHolds P Q r) e h.role) x.queue h.queue)
 
 pub tick_holds : (P : Entry → Type 0) (Q : Ballot → Type 0) (n d : ℕ) (x : Desk) → DeskHolds P Q x
     → Fitting P Q d (tick n d x.stored (length x.log) (passing x))
-tick_holds P Q n d x h = by_role x.role h.role
-  where
-    says : PlanHolds P Q (told_length n d x)
-    says =
-        record {
-          role = tt;
-          change = tt;
-          messages =
-              each_holds P Q d (without (desks_from 1 n) (d ∷ [])) (Behind (length x.log)) tt;
-        }
-
-    wants : (t : Bool) → Fitting P Q d (if t then made n d x else Ok (told_length n d x))
-    wants true f = ballot_holds P Q n d x f
-    wants false f = says
-
-    leads : (b : Ballot) → Q b → (t : Bool)
-        → ResultHolds P Q (if t then Ok (asked n d x b) else Ok (told_length n d x))
-    leads b q true = ask_next_holds P Q n d x b q x.queue h.queue
-    leads b q false = says
-
-    outbid : (b : Ballot) → Q b → (t : Bool)
-        → Fitting P Q d
-        (if t
-        then tick_idle n d x.stored (length x.log) (passing x)
-        else (if wants_ballot x.queue (length x.log)
-        then Ok (asked n d x b)
-        else Ok (told_length n d x)))
-    outbid b q true f = wants (wants_ballot x.queue (length x.log)) f
-    outbid b q false f = leads b q (wants_ballot x.queue (length x.log))
-
-    by_role : (r : Role) → RoleHolds P Q r
-        → Fitting P Q d (tick_by_role n d x.stored (length x.log) (passing x) r)
-    by_role Idle k f = wants (wants_ballot x.queue (length x.log)) f
-    by_role (Gathering b pos heard) k f = ballot_holds P Q n d x f
-    by_role (Proposing b pos e heard) k f =
-        record {
-          role = tt;
-          change = tt;
-          messages = each_holds P Q d (without (desks_from 1 n) heard) (Accept b pos e) k;
-        }
-    by_role (Leading b) k f = outbid b k (is_outbid x.stored b) f
+tick_holds P Q n d x h =
+    tick_cases (Fitting P Q d) n d x.stored (length x.log) (passing x) (λ f. record {
+      role = tt;
+      change = tt;
+      messages = each_holds P Q d (without (desks_from 1 n) (d ∷ [])) (Behind (length x.log)) tt;
+    }) (λ t. ballot_holds P Q n d x) (λ b pos heard e. ballot_holds P Q n d x)
+    (λ b pos e heard i f. record {
+      role = tt;
+      change = tt;
+      messages =
+          each_holds P Q d (without (desks_from 1 n) heard) (Accept b pos e)
+          (subst (λ (r : Role). RoleHolds P Q r) i h.role);
+    })
+    (λ b e t f.
+    ask_next_holds P Q n d x b (subst (λ (r : Role). RoleHolds P Q r) e h.role) x.queue h.queue)

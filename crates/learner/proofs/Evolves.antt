@@ -1,18 +1,12 @@
 -- When what holds of a desk's messages goes on to hold as the desk changes.
 use Rattle.std.proofs.Common.{◌≡◌, ℕ, ◌≤◌, List, [], ◌++◌, length, sym, ap, ◌∙◌, append_assoc}
-use Rattle.std.proofs.Common.{subst, arith, length-append}
-use Rattle.std.proofs.lemmas.List.{append-nil}
-use Rattle.learner.specs.Order.{IsAtMost}
+use Rattle.std.proofs.{Common.subst, Common.arith, Common.length-append, lemmas.List.append-nil}
+use Rattle.learner.specs.{Order.IsAtMost, Desks.Desk, Laws.IsPrefix}
 use Rattle.learner.proofs.Order.{at_most_self, at_most_trans}
 use Rattle.learner.specs.Invariant.{Covers, RoleAllows, Stands}
-use Rattle.acceptor.specs.declared.ballot.Ballot.{Ballot}
-use Rattle.acceptor.specs.declared.entry.Entry.{Entry}
-use Rattle.acceptor.specs.declared.message.Body.{Body}
-use Rattle.acceptor.specs.declared.message.Message.{Message}
-use Rattle.acceptor.specs.declared.message.Body.TheVariants.{Prepare, Promise, Accept, Accepted}
-use Rattle.acceptor.specs.declared.message.Body.TheVariants.{Nack, Behind, Decided}
-use Rattle.learner.specs.Desks.{Desk}
-use Rattle.learner.specs.Laws.{IsPrefix}
+use Rattle.acceptor.specs.declared.{ballot.Ballot.Ballot, entry.Entry.Entry}
+use Rattle.acceptor.specs.declared.message.{Body.Body, Message.Message}
+use Rattle.acceptor.specs.declared.message.Body.TheVariants.{Promise, Accept, Accepted, Decided}
 
 pub length_prefix : (xs ys : List Entry) → IsPrefix xs ys → length xs ≤ length ys
 length_prefix xs ys p = let l = length-append xs p.0 in let e = ap length p.1 in omega arith
@@ -46,7 +40,6 @@ evolves_self d x =
 
 pub evolves : (n : ℕ) (sent : List Message) (d : ℕ) (x y : Desk) → Evolves d x y → (body : Body)
     → Stands n sent d x body → Stands n sent d y body
-evolves n sent d x y go (Prepare b pos) h = tt
 evolves n sent d x y go (Promise b pos v) h =
     record {
       promised = at_most_trans b x.stored.promised y.stored.promised h.promised go.promised;
@@ -73,10 +66,8 @@ evolves n sent d x y go (Accepted b pos) h =
           λ e.
           let here : pos ≡ length x.log = omega arith in
           let same : length x.log ≡ length y.log = omega arith in
-          subst (λ (k : ℕ). Covers y.stored.vote k b) (sym here)
-          (go.vote b h.promised same
+          subst (λ (k : ℕ). Covers y.stored.vote k b) (sym here) (go.vote b h.promised same
           (subst (λ (k : ℕ). Covers x.stored.vote k b) here (h.vote here)));
     }
-evolves n sent d x y go (Nack b pos promised) h = tt
-evolves n sent d x y go (Behind len) h = tt
 evolves n sent d x y go (Decided pos e) h = h
+evolves n sent d x y go _ h = tt

@@ -2,26 +2,19 @@
 use Rattle.std.proofs.Common.{◌≡◌, ℕ, zero, suc, List, [], ◌∷◌, ◌++◌, Some, None, Result, Ok, Err}
 use Rattle.std.proofs.Common.{drop, refl}
 use Rattle.std.specs.Prelude.{codes, replicate}
-use Rattle.acceptor.specs.declared.ballot.Ballot.{Ballot}
-use Rattle.acceptor.specs.declared.entry.Entry.{Entry}
-use Rattle.acceptor.specs.declared.message.Body.{Body}
+use Rattle.acceptor.specs.declared.{ballot.Ballot.Ballot, entry.Entry.Entry, message.Body.Body}
 use Rattle.acceptor.specs.declared.message.Body.TheVariants.{Prepare, Promise, Accept, Accepted}
 use Rattle.acceptor.specs.declared.message.Body.TheVariants.{Nack, Behind, Decided}
-use Rattle.acceptor.specs.declared.message.Message.{Message}
-use Rattle.acceptor.specs.Storing.{first_stored}
-use Rattle.acceptor.specs.Messages.{message}
+use Rattle.acceptor.specs.{declared.message.Message.Message, Storing.first_stored, Messages.message}
 use Rattle.proposer.specs.declared.fault.Refusal.{Refusal}
 use Rattle.proposer.specs.declared.fault.Refusal.TheVariants.{Busy, BallotsSpent}
 use Rattle.proposer.specs.declared.role.Role.TheVariants.{Idle, Gathering, Proposing, Leading}
 use Rattle.learner.specs.declared.event.DeskEvent.TheVariants.{Submit, Start, Deliver}
-use Rattle.learner.specs.declared.event.WorldEvent.{WorldEvent}
-use Rattle.learner.specs.declared.event.WorldEvent.TheVariants.{Submit as SubmitAt}
+use Rattle.learner.specs.declared.event.WorldEvent.{WorldEvent, TheVariants.Submit as SubmitAt}
 use Rattle.learner.specs.declared.event.WorldEvent.TheVariants.{Start as StartAt, Tick as TickAt}
-use Rattle.learner.specs.declared.event.WorldEvent.TheVariants.{Deliver as DeliverNth}
-use Rattle.learner.specs.declared.event.WorldEvent.TheVariants.{Restart as RestartAt}
-use Rattle.learner.specs.Desks.{Desk, first_desk}
-use Rattle.learner.specs.Steps.{Done, on_body, step}
-use Rattle.learner.specs.Worlds.{after, log_of}
+use Rattle.learner.specs.{declared.event.WorldEvent.TheVariants.Deliver as DeliverNth, Steps.Done}
+use Rattle.learner.specs.{declared.event.WorldEvent.TheVariants.Restart as RestartAt, Steps.on_body}
+use Rattle.learner.specs.{Desks.Desk, Desks.first_desk, Steps.step, Worlds.after, Worlds.log_of}
 
 abbrev pub a : Entry
 a = record { id = 7; text = codes "REG 1 Ann Li" }
@@ -42,25 +35,14 @@ one_entry =
     SubmitAt 1 a ∷ StartAt 1 ∷ deliver (1 ∷ 2 ∷ 4 ∷ 5 ∷ 6 ∷ 7 ∷ 9 ∷ 10 ∷ 11 ∷ []) ++ TickAt 3 ∷
     deliver (14 ∷ 16 ∷ [])
 
-one_entry_sent : (after 3 one_entry).sent
-    ≡ message 1 1 (Prepare (ballot 1 1) 0)
-    ∷ message 1 2 (Prepare (ballot 1 1) 0)
-    ∷ message 1 3 (Prepare (ballot 1 1) 0)
-    ∷ message 1 1 (Promise (ballot 1 1) 0 None)
-    ∷ message 2 1 (Promise (ballot 1 1) 0 None)
-    ∷ message 1 1 (Accept (ballot 1 1) 0 a)
-    ∷ message 1 2 (Accept (ballot 1 1) 0 a)
-    ∷ message 1 3 (Accept (ballot 1 1) 0 a)
-    ∷ message 1 1 (Accepted (ballot 1 1) 0)
-    ∷ message 2 1 (Accepted (ballot 1 1) 0)
-    ∷ message 1 2 (Decided 0 a)
-    ∷ message 1 3 (Decided 0 a)
-    ∷ message 2 1 (Behind 1)
-    ∷ message 3 1 (Behind 0)
-    ∷ message 3 2 (Behind 0)
-    ∷ message 1 3 (Decided 0 a)
-    ∷ message 3 1 (Behind 1)
-    ∷ []
+one_entry_sent : (after 3 one_entry).sent ≡ message 1 1 (Prepare (ballot 1 1) 0)
+    ∷ message 1 2 (Prepare (ballot 1 1) 0) ∷ message 1 3 (Prepare (ballot 1 1) 0)
+    ∷ message 1 1 (Promise (ballot 1 1) 0 None) ∷ message 2 1 (Promise (ballot 1 1) 0 None)
+    ∷ message 1 1 (Accept (ballot 1 1) 0 a) ∷ message 1 2 (Accept (ballot 1 1) 0 a)
+    ∷ message 1 3 (Accept (ballot 1 1) 0 a) ∷ message 1 1 (Accepted (ballot 1 1) 0)
+    ∷ message 2 1 (Accepted (ballot 1 1) 0) ∷ message 1 2 (Decided 0 a) ∷ message 1 3 (Decided 0 a)
+    ∷ message 2 1 (Behind 1) ∷ message 3 1 (Behind 0) ∷ message 3 2 (Behind 0)
+    ∷ message 1 3 (Decided 0 a) ∷ message 3 1 (Behind 1) ∷ []
 one_entry_sent = refl
 
 one_entry_log_1 : log_of 3 one_entry 1 ≡ a ∷ []
@@ -84,30 +66,18 @@ taken_over =
     taking_over ++ deliver (15 ∷ 16 ∷ 18 ∷ 19 ∷ [])
     ++ StartAt 2 ∷ deliver (20 ∷ 22 ∷ 23 ∷ 26 ∷ 27 ∷ 28 ∷ [])
 
-taken_over_sent : drop 8 (after 3 taken_over).sent
-    ≡ message 1 1 (Accepted (ballot 1 1) 0)
-    ∷ message 2 1 (Prepare (ballot 2 2) 0)
-    ∷ message 2 2 (Prepare (ballot 2 2) 0)
+taken_over_sent : drop 8 (after 3 taken_over).sent ≡ message 1 1 (Accepted (ballot 1 1) 0)
+    ∷ message 2 1 (Prepare (ballot 2 2) 0) ∷ message 2 2 (Prepare (ballot 2 2) 0)
     ∷ message 2 3 (Prepare (ballot 2 2) 0)
     ∷ message 1 2 (Promise (ballot 2 2) 0 (Some (record { ballot = ballot 1 1; entry = a })))
-    ∷ message 2 2 (Promise (ballot 2 2) 0 None)
-    ∷ message 2 1 (Accept (ballot 2 2) 0 a)
-    ∷ message 2 2 (Accept (ballot 2 2) 0 a)
-    ∷ message 2 3 (Accept (ballot 2 2) 0 a)
-    ∷ message 1 2 (Accepted (ballot 2 2) 0)
-    ∷ message 2 2 (Accepted (ballot 2 2) 0)
-    ∷ message 2 1 (Decided 0 a)
-    ∷ message 2 3 (Decided 0 a)
-    ∷ message 2 1 (Accept (ballot 2 2) 1 b)
-    ∷ message 2 2 (Accept (ballot 2 2) 1 b)
-    ∷ message 2 3 (Accept (ballot 2 2) 1 b)
-    ∷ message 1 2 (Behind 1)
-    ∷ message 1 2 (Accepted (ballot 2 2) 1)
-    ∷ message 2 2 (Accepted (ballot 2 2) 1)
-    ∷ message 2 1 (Decided 1 b)
-    ∷ message 2 3 (Decided 1 b)
-    ∷ message 1 2 (Behind 2)
-    ∷ []
+    ∷ message 2 2 (Promise (ballot 2 2) 0 None) ∷ message 2 1 (Accept (ballot 2 2) 0 a)
+    ∷ message 2 2 (Accept (ballot 2 2) 0 a) ∷ message 2 3 (Accept (ballot 2 2) 0 a)
+    ∷ message 1 2 (Accepted (ballot 2 2) 0) ∷ message 2 2 (Accepted (ballot 2 2) 0)
+    ∷ message 2 1 (Decided 0 a) ∷ message 2 3 (Decided 0 a) ∷ message 2 1 (Accept (ballot 2 2) 1 b)
+    ∷ message 2 2 (Accept (ballot 2 2) 1 b) ∷ message 2 3 (Accept (ballot 2 2) 1 b)
+    ∷ message 1 2 (Behind 1) ∷ message 1 2 (Accepted (ballot 2 2) 1)
+    ∷ message 2 2 (Accepted (ballot 2 2) 1) ∷ message 2 1 (Decided 1 b) ∷ message 2 3 (Decided 1 b)
+    ∷ message 1 2 (Behind 2) ∷ []
 taken_over_sent = refl
 
 taken_over_log_1 : log_of 3 taken_over 1 ≡ a ∷ b ∷ []
@@ -124,10 +94,8 @@ taking_over_queue : ((after 3 taking_over).desks 2).queue ≡ b ∷ []
 taking_over_queue = refl
 
 taking_over_tick : drop 17 (after 3 (taking_over ++ TickAt 2 ∷ [])).sent
-    ≡ message 2 1 (Accept (ballot 2 2) 0 a)
-    ∷ message 2 2 (Accept (ballot 2 2) 0 a)
-    ∷ message 2 3 (Accept (ballot 2 2) 0 a)
-    ∷ []
+    ≡ message 2 1 (Accept (ballot 2 2) 0 a) ∷ message 2 2 (Accept (ballot 2 2) 0 a)
+    ∷ message 2 3 (Accept (ballot 2 2) 0 a) ∷ []
 taking_over_tick = refl
 
 -- Desk 1 has sent Accept and restarts. A late Accepted changes nothing and is not answered, the
@@ -148,12 +116,11 @@ restarted_desk_unanswered = refl
 restarted_desk_queue : ((after 3 restarted_desk).desks 1).queue ≡ []
 restarted_desk_queue = refl
 
-restarted_desk_vote : ((after 3 restarted_desk).desks 1).stored
-    ≡ record {
-      promised = ballot 1 1;
-      vote = Some (record { pos = 0; ballot = ballot 1 1; entry = a });
-      tried = 1;
-    }
+restarted_desk_vote : ((after 3 restarted_desk).desks 1).stored ≡ record {
+  promised = ballot 1 1;
+  vote = Some (record { pos = 0; ballot = ballot 1 1; entry = a });
+  tried = 1;
+}
 restarted_desk_vote = refl
 
 restarted_desk_role : ((after 3 (restarted_desk ++ StartAt 1 ∷ [])).desks 1).role
@@ -164,12 +131,9 @@ restarted_desk_role = refl
 abbrev next_position : List WorldEvent
 next_position = one_entry ++ SubmitAt 2 b ∷ StartAt 2 ∷ DeliverNth 18 ∷ []
 
-next_position_sent : drop 17 (after 3 next_position).sent
-    ≡ message 2 1 (Prepare (ballot 2 2) 1)
-    ∷ message 2 2 (Prepare (ballot 2 2) 1)
-    ∷ message 2 3 (Prepare (ballot 2 2) 1)
-    ∷ message 1 2 (Promise (ballot 2 2) 1 None)
-    ∷ []
+next_position_sent : drop 17 (after 3 next_position).sent ≡ message 2 1 (Prepare (ballot 2 2) 1)
+    ∷ message 2 2 (Prepare (ballot 2 2) 1) ∷ message 2 3 (Prepare (ballot 2 2) 1)
+    ∷ message 1 2 (Promise (ballot 2 2) 1 None) ∷ []
 next_position_sent = refl
 
 next_position_vote : ((after 3 next_position).desks 1).stored.vote
@@ -239,12 +203,10 @@ low_prepare = refl
 abbrev promised_desk : Desk
 promised_desk = record desk_1 { stored = record { promised = ballot 2 2; vote = None; tried = 1 } }
 
-low_accept : step 3 1 promised_desk (Deliver (message 3 1 (Accept (ballot 1 3) 1 b)))
-    ≡ Ok
-    (record {
-      desk = promised_desk;
-      messages = message 1 3 (Nack (ballot 1 3) 1 (ballot 2 2)) ∷ [];
-    })
+low_accept : step 3 1 promised_desk (Deliver (message 3 1 (Accept (ballot 1 3) 1 b))) ≡ Ok (record {
+  desk = promised_desk;
+  messages = message 1 3 (Nack (ballot 1 3) 1 (ballot 2 2)) ∷ [];
+})
 low_accept = refl
 
 -- an earlier entry changes nothing, a later one is answered by the log's length
@@ -275,8 +237,7 @@ no_such_sender = refl
 abbrev five_desks : List WorldEvent
 five_desks = SubmitAt 1 a ∷ StartAt 1 ∷ deliver (1 ∷ 2 ∷ 3 ∷ 7 ∷ 7 ∷ 7 ∷ 6 ∷ [])
 
-five_desks_heard : ((after 5 five_desks).desks 1).role
-    ≡ Gathering (ballot 1 1) 0
+five_desks_heard : ((after 5 five_desks).desks 1).role ≡ Gathering (ballot 1 1) 0
     (record { desk = 1; vote = None } ∷ record { desk = 2; vote = None } ∷ [])
 five_desks_heard = refl
 
@@ -329,24 +290,18 @@ equal_nack = refl
 -- At a Tick a desk that gathers makes a new ballot, one that proposes asks those again that it has
 -- not heard, and an idle one with nothing to propose tells its log's length.
 tick_gathering : drop 3 (after 3 (gathers ++ TickAt 1 ∷ [])).sent
-    ≡ message 1 1 (Prepare (ballot 2 1) 0)
-    ∷ message 1 2 (Prepare (ballot 2 1) 0)
-    ∷ message 1 3 (Prepare (ballot 2 1) 0)
-    ∷ []
+    ≡ message 1 1 (Prepare (ballot 2 1) 0) ∷ message 1 2 (Prepare (ballot 2 1) 0)
+    ∷ message 1 3 (Prepare (ballot 2 1) 0) ∷ []
 tick_gathering = refl
 
 tick_proposing : drop 9
     (after 3 (gathers ++ deliver (1 ∷ 2 ∷ 4 ∷ 5 ∷ 7 ∷ 9 ∷ []) ++ TickAt 1 ∷ [])).sent
-    ≡ message 1 1 (Accept (ballot 1 1) 0 a)
-    ∷ message 1 3 (Accept (ballot 1 1) 0 a)
-    ∷ []
+    ≡ message 1 1 (Accept (ballot 1 1) 0 a) ∷ message 1 3 (Accept (ballot 1 1) 0 a) ∷ []
 tick_proposing = refl
 
 tick_idle_queue : (after 3 (SubmitAt 2 b ∷ TickAt 2 ∷ [])).sent
-    ≡ message 2 1 (Prepare (ballot 1 2) 0)
-    ∷ message 2 2 (Prepare (ballot 1 2) 0)
-    ∷ message 2 3 (Prepare (ballot 1 2) 0)
-    ∷ []
+    ≡ message 2 1 (Prepare (ballot 1 2) 0) ∷ message 2 2 (Prepare (ballot 1 2) 0)
+    ∷ message 2 3 (Prepare (ballot 1 2) 0) ∷ []
 tick_idle_queue = refl
 
 -- a majority that promises to a desk with nothing to propose leaves it idle

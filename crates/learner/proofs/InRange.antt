@@ -1,43 +1,34 @@
 -- One step, and every list of events, keeps a desk and what it sends in range.
 use Rattle.std.specs.Prelude.{⊤}
-use Rattle.std.proofs.Common.{◌≡◌, ℕ, zero, suc, ◌<◌, Bool, true, false, if◌then◌else◌, ◌==◌, ◌&&◌}
-use Rattle.std.proofs.Common.{List, [], ◌∷◌, ◌++◌, inl, Option, Some, None, Result, Ok, Err, length}
+use Rattle.std.proofs.Common.{◌≡◌, ℕ, zero, suc, ◌<◌, Bool, true, false, if◌then◌else◌, ◌&&◌, List}
+use Rattle.std.proofs.Common.{[], ◌∷◌, ◌++◌, inl, Option, Some, None, Result, Ok, Err, length}
 use Rattle.std.proofs.Common.{slice_get, nat_lt, refl, subst, sym, arith}
 use Rattle.std.proofs.lemmas.Bool.Decides.{nat_tests}
-use Rattle.acceptor.specs.declared.ballot.Ballot.{Ballot}
-use Rattle.acceptor.specs.declared.entry.Entry.{Entry}
-use Rattle.acceptor.specs.declared.message.Body.{Body}
+use Rattle.acceptor.specs.declared.{ballot.Ballot.Ballot, entry.Entry.Entry, stored.Change.Change}
+use Rattle.acceptor.specs.declared.message.{Body.Body, Message.Message}
 use Rattle.acceptor.specs.declared.message.Body.TheVariants.{Prepare, Promise, Accept, Accepted}
 use Rattle.acceptor.specs.declared.message.Body.TheVariants.{Nack, Behind, Decided}
-use Rattle.acceptor.specs.declared.message.Message.{Message}
-use Rattle.acceptor.specs.declared.stored.Change.{Change}
 use Rattle.acceptor.specs.declared.stored.Change.TheVariants.{Promised, Voted, Tried, Appended}
-use Rattle.proposer.specs.declared.fault.Refusal.{Refusal}
-use Rattle.proposer.specs.declared.fault.Refusal.TheVariants.{Busy, LogFull}
+use Rattle.proposer.specs.{declared.fault.Refusal.Refusal, Proposing.start, Proposing.tick}
 use Rattle.proposer.specs.declared.plan.Plan.{Plan}
-use Rattle.proposer.specs.Plans.{Passing}
-use Rattle.proposer.specs.Proposing.{is_full, start, tick}
-use Rattle.learner.specs.declared.event.DeskEvent.{DeskEvent}
+use Rattle.learner.specs.{declared.event.DeskEvent.DeskEvent, Worlds.happens, Worlds.run}
+use Rattle.learner.specs.{declared.event.WorldEvent.TheVariants.Deliver as DeliverNth, Worlds.after}
+use Rattle.learner.specs.{declared.event.WorldEvent.TheVariants.Restart as RestartAt, Steps.done}
+use Rattle.learner.specs.{Desks.Desk, Desks.restarted, Desks.passing, Steps.idle, Steps.planned}
+use Rattle.learner.specs.{Steps.step, Contents.BodyHolds, Contents.MessagesHold, Contents.DeskHolds}
 use Rattle.learner.specs.declared.event.DeskEvent.TheVariants.{Submit, Start, Tick, Deliver}
-use Rattle.learner.specs.declared.event.WorldEvent.{WorldEvent}
-use Rattle.learner.specs.declared.event.WorldEvent.TheVariants.{Submit as SubmitAt}
+use Rattle.learner.specs.declared.event.WorldEvent.{WorldEvent, TheVariants.Submit as SubmitAt}
 use Rattle.learner.specs.declared.event.WorldEvent.TheVariants.{Start as StartAt, Tick as TickAt}
-use Rattle.learner.specs.declared.event.WorldEvent.TheVariants.{Deliver as DeliverNth}
-use Rattle.learner.specs.declared.event.WorldEvent.TheVariants.{Restart as RestartAt}
-use Rattle.learner.specs.Desks.{Desk, restarted, passing}
 use Rattle.learner.specs.Steps.{IsDesk, is_desk, is_real, is_in_range, is_heeded, on_body, Done}
-use Rattle.learner.specs.Steps.{done, idle, planned, passed, step}
+use Rattle.learner.{proofs.Goes.put_all, proofs.Runs.desk_from_test}
 use Rattle.learner.specs.Worlds.{World, new_world, put, world_after, at_desk, nth_sent, delivered}
-use Rattle.learner.specs.Worlds.{happens, run, after}
-use Rattle.learner.specs.Contents.{BodyHolds, MessagesHold, DeskHolds}
 use Rattle.learner.specs.Ranges.{IsInRange, IsReal, DeskIsInRange, AreInRange, DoneIsInRange}
 use Rattle.learner.specs.Laws.{MessagesAreInRange, DesksAreInRange, StepsStayInRange}
 use Rattle.learner.proofs.Contents.{Fits, PlanHolds, ResultHolds, ResultFits, push_holds}
 use Rattle.learner.proofs.Contents.{adopt_holds, body_holds, start_holds, tick_holds}
-use Rattle.learner.proofs.Goes.{put_all}
 use Rattle.learner.proofs.Ranges.{BodyIsPlaced, ArePlaced, DeskIsPlaced, PlanIsPlaced}
 use Rattle.learner.proofs.Ranges.{ResultIsPlaced, body_placed, start_placed, tick_placed}
-use Rattle.learner.proofs.Runs.{desk_from_test}
+use Rattle.learner.proofs.Cases.{by_test, submit_cases}
 
 -- any entry will do
 abbrev Any : Entry → Type 0
@@ -167,17 +158,9 @@ result_in_range n d x (Ok p) ours h k l = plan_in_range n d x p ours h k l
 
 submit_in_range : (n d : ℕ) (x : Desk) (e : Entry) → DeskIsInRange n x
     → DoneIsInRange n d (step n d x (Submit e))
-submit_in_range n d x e h = busy (length x.queue == 64)
-  where
-    was : DeskHolds Any (Real n) x
-    was = h.ballots
-
-    taken : Result Passing Refusal
-    taken = Ok (record { role = x.role; queue = x.queue ++ e ∷ []; seen = x.seen })
-
-    full : (t : Bool) → DoneIsInRange n d (passed x (if t then Err LogFull else taken))
-    full true = tt
-    full false = (
+submit_in_range n d x e h =
+    let was : DeskHolds Any (Real n) x = h.ballots in
+    submit_cases (DoneIsInRange n d) n d x e tt tt (
       record {
         log = h.log;
         role = h.role;
@@ -193,12 +176,6 @@ submit_in_range n d x e h = busy (length x.queue == 64)
       },
       tt,
     )
-
-    busy : (t : Bool)
-        → DoneIsInRange n d
-        (passed x (if t then Err Busy else (if is_full (length x.log) then Err LogFull else taken)))
-    busy true = tt
-    busy false = full (is_full (length x.log))
 
 -- a step of a desk in range leaves it in range, and what it sends is in range
 pub step_in_range : StepsStayInRange
@@ -258,14 +235,10 @@ after_in_range n w d (Ok r) h k =
 
 at_desk_in_range : (n : ℕ) (w : World) (d : ℕ) (event : DeskEvent) → WorldIsInRange n w
     → WorldIsInRange n (at_desk n w d event)
-at_desk_in_range n w d event h = go (is_desk n d) refl
-  where
-    go : (t : Bool) → is_desk n d ≡ t
-        → WorldIsInRange n (if t then world_after w d (step n d (w.desks d) event) else w)
-    go true e =
-        after_in_range n w d (step n d (w.desks d) event) h
-        (step_in_range n d (w.desks d) event (desk_from_test n d e) (h.desks d))
-    go false e = h
+at_desk_in_range n w d event h =
+    by_test (WorldIsInRange n) (is_desk n d) (world_after w d (step n d (w.desks d) event)) w (λ e.
+    after_in_range n w d (step n d (w.desks d) event) h
+    (step_in_range n d (w.desks d) event (desk_from_test n d e) (h.desks d))) (λ e. h)
 
 happens_in_range : (n : ℕ) (w : World) (event : WorldEvent) → WorldIsInRange n w
     → WorldIsInRange n (happens n w event)
@@ -277,7 +250,12 @@ happens_in_range n w (DeliverNth k) h = go (nth_sent w.sent k)
     go : (o : Option Message) → WorldIsInRange n (delivered n w o)
     go None = h
     go (Some m) = at_desk_in_range n w m.to (Deliver m) h
-happens_in_range n w (RestartAt d) h = go (is_desk n d)
+happens_in_range n w (RestartAt d) h =
+    by_test (WorldIsInRange n) (is_desk n d)
+    (record { desks = put w.desks d (restarted (w.desks d)); sent = w.sent }) w (λ t. record {
+      desks = put_all (λ j z. DeskIsInRange n z) w.desks d (restarted (w.desks d)) again h.desks;
+      sent = h.sent;
+    }) (λ t. h)
   where
     was : DeskIsInRange n (w.desks d)
     was = h.desks d
@@ -301,17 +279,6 @@ happens_in_range n w (RestartAt d) h = go (is_desk n d)
               };
         }
 
-    go : (t : Bool)
-        → WorldIsInRange n
-        (if t then record { desks = put w.desks d (restarted (w.desks d)); sent = w.sent } else w)
-    go true =
-        record {
-          desks =
-              put_all (λ j z. DeskIsInRange n z) w.desks d (restarted (w.desks d)) again h.desks;
-          sent = h.sent;
-        }
-    go false = h
-
 run_in_range : (n : ℕ) (w : World) (events : List WorldEvent) → WorldIsInRange n w
     → WorldIsInRange n (run n w events)
 run_in_range n w [] h = h
@@ -319,8 +286,7 @@ run_in_range n w (e ∷ es) h = run_in_range n (happens n w e) es (happens_in_ra
 
 after_all_in_range : (n : ℕ) (events : List WorldEvent) → WorldIsInRange n (after n events)
 after_all_in_range n events =
-    run_in_range n new_world events
-    (record {
+    run_in_range n new_world events (record {
       desks =
           λ d.
           record {

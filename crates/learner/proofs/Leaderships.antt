@@ -1,18 +1,15 @@
 -- Histories of desks that keep their leadership, computed from the definitions.
 use Rattle.std.proofs.Common.{◌≡◌, List, [], ◌∷◌, ◌++◌, Some, None, Ok, Err, drop, false, refl}
 use Rattle.std.specs.Prelude.{codes}
-use Rattle.acceptor.specs.declared.ballot.Ballot.{Ballot}
-use Rattle.acceptor.specs.declared.entry.Entry.{Entry}
+use Rattle.acceptor.specs.declared.{ballot.Ballot.Ballot, entry.Entry.Entry, stored.Stored.Stored}
 use Rattle.acceptor.specs.declared.message.Body.TheVariants.{Prepare, Promise, Accept, Accepted}
 use Rattle.acceptor.specs.declared.message.Body.TheVariants.{Behind, Decided}
-use Rattle.acceptor.specs.declared.stored.Stored.{Stored}
 use Rattle.acceptor.specs.Messages.{message}
 use Rattle.proposer.specs.declared.fault.Refusal.TheVariants.{LogFull, BallotsSpent}
 use Rattle.proposer.specs.declared.role.Role.TheVariants.{Idle, Proposing, Leading}
 use Rattle.proposer.specs.Plans.{Passing, only_say}
 use Rattle.proposer.specs.Proposing.{start, tick, gather}
-use Rattle.learner.specs.declared.event.WorldEvent.{WorldEvent}
-use Rattle.learner.specs.declared.event.WorldEvent.TheVariants.{Submit as SubmitAt}
+use Rattle.learner.specs.declared.event.WorldEvent.{WorldEvent, TheVariants.Submit as SubmitAt}
 use Rattle.learner.specs.declared.event.WorldEvent.TheVariants.{Start as StartAt, Tick as TickAt}
 use Rattle.learner.specs.declared.event.WorldEvent.TheVariants.{Deliver as DeliverNth}
 use Rattle.learner.specs.Worlds.{after, log_of}
@@ -29,28 +26,16 @@ two_entries =
     ∷ deliver (1 ∷ 2 ∷ 4 ∷ 5 ∷ 6 ∷ 7 ∷ 9 ∷ 10 ∷ []) ++ StartAt 1
     ∷ deliver (13 ∷ 11 ∷ 14 ∷ 16 ∷ 18 ∷ [])
 
-two_entries_sent : (after 3 two_entries).sent
-    ≡ message 1 1 (Prepare (ballot 1 1) 0)
-    ∷ message 1 2 (Prepare (ballot 1 1) 0)
-    ∷ message 1 3 (Prepare (ballot 1 1) 0)
-    ∷ message 1 1 (Promise (ballot 1 1) 0 None)
-    ∷ message 2 1 (Promise (ballot 1 1) 0 None)
-    ∷ message 1 1 (Accept (ballot 1 1) 0 a)
-    ∷ message 1 2 (Accept (ballot 1 1) 0 a)
-    ∷ message 1 3 (Accept (ballot 1 1) 0 a)
-    ∷ message 1 1 (Accepted (ballot 1 1) 0)
-    ∷ message 2 1 (Accepted (ballot 1 1) 0)
-    ∷ message 1 2 (Decided 0 a)
-    ∷ message 1 3 (Decided 0 a)
-    ∷ message 1 1 (Accept (ballot 1 1) 1 b)
-    ∷ message 1 2 (Accept (ballot 1 1) 1 b)
-    ∷ message 1 3 (Accept (ballot 1 1) 1 b)
-    ∷ message 1 1 (Accepted (ballot 1 1) 1)
-    ∷ message 2 1 (Behind 1)
-    ∷ message 2 1 (Accepted (ballot 1 1) 1)
-    ∷ message 1 2 (Decided 1 b)
-    ∷ message 1 3 (Decided 1 b)
-    ∷ []
+two_entries_sent : (after 3 two_entries).sent ≡ message 1 1 (Prepare (ballot 1 1) 0)
+    ∷ message 1 2 (Prepare (ballot 1 1) 0) ∷ message 1 3 (Prepare (ballot 1 1) 0)
+    ∷ message 1 1 (Promise (ballot 1 1) 0 None) ∷ message 2 1 (Promise (ballot 1 1) 0 None)
+    ∷ message 1 1 (Accept (ballot 1 1) 0 a) ∷ message 1 2 (Accept (ballot 1 1) 0 a)
+    ∷ message 1 3 (Accept (ballot 1 1) 0 a) ∷ message 1 1 (Accepted (ballot 1 1) 0)
+    ∷ message 2 1 (Accepted (ballot 1 1) 0) ∷ message 1 2 (Decided 0 a) ∷ message 1 3 (Decided 0 a)
+    ∷ message 1 1 (Accept (ballot 1 1) 1 b) ∷ message 1 2 (Accept (ballot 1 1) 1 b)
+    ∷ message 1 3 (Accept (ballot 1 1) 1 b) ∷ message 1 1 (Accepted (ballot 1 1) 1)
+    ∷ message 2 1 (Behind 1) ∷ message 2 1 (Accepted (ballot 1 1) 1) ∷ message 1 2 (Decided 1 b)
+    ∷ message 1 3 (Decided 1 b) ∷ []
 two_entries_sent = refl
 
 two_entries_log_1 : log_of 3 two_entries 1 ≡ a ∷ b ∷ []
@@ -81,30 +66,22 @@ leading_queue = refl
 abbrev outbid : List WorldEvent
 outbid = leading ++ DeliverNth 11 ∷ StartAt 2 ∷ DeliverNth 14 ∷ []
 
-outbid_promise : drop 12 (after 3 outbid).sent
-    ≡ message 2 1 (Behind 1)
-    ∷ message 2 1 (Prepare (ballot 2 2) 1)
-    ∷ message 2 2 (Prepare (ballot 2 2) 1)
-    ∷ message 2 3 (Prepare (ballot 2 2) 1)
-    ∷ message 1 2 (Promise (ballot 2 2) 1 None)
-    ∷ []
+outbid_promise : drop 12 (after 3 outbid).sent ≡ message 2 1 (Behind 1)
+    ∷ message 2 1 (Prepare (ballot 2 2) 1) ∷ message 2 2 (Prepare (ballot 2 2) 1)
+    ∷ message 2 3 (Prepare (ballot 2 2) 1) ∷ message 1 2 (Promise (ballot 2 2) 1 None) ∷ []
 outbid_promise = refl
 
 outbid_role : ((after 3 outbid).desks 1).role ≡ Leading (ballot 1 1)
 outbid_role = refl
 
 outbid_start : drop 17 (after 3 (outbid ++ StartAt 1 ∷ [])).sent
-    ≡ message 1 1 (Prepare (ballot 3 1) 1)
-    ∷ message 1 2 (Prepare (ballot 3 1) 1)
-    ∷ message 1 3 (Prepare (ballot 3 1) 1)
-    ∷ []
+    ≡ message 1 1 (Prepare (ballot 3 1) 1) ∷ message 1 2 (Prepare (ballot 3 1) 1)
+    ∷ message 1 3 (Prepare (ballot 3 1) 1) ∷ []
 outbid_start = refl
 
 outbid_tick : drop 17 (after 3 (outbid ++ TickAt 1 ∷ [])).sent
-    ≡ message 1 1 (Prepare (ballot 3 1) 1)
-    ∷ message 1 2 (Prepare (ballot 3 1) 1)
-    ∷ message 1 3 (Prepare (ballot 3 1) 1)
-    ∷ []
+    ≡ message 1 1 (Prepare (ballot 3 1) 1) ∷ message 1 2 (Prepare (ballot 3 1) 1)
+    ∷ message 1 3 (Prepare (ballot 3 1) 1) ∷ []
 outbid_tick = refl
 
 -- What a desk that leads does at a Start and at a Tick: it has this in store, and this queue.
@@ -116,18 +93,15 @@ with_promise top = record { promised = top; vote = None; tried = 1 }
 
 -- not outbid: it asks for votes for the first of its queue, and with none it does nothing, or tells
 -- its length
-leader_start : start 3 1 (with_promise (ballot 1 1)) 1 (once_leading (b ∷ a ∷ []))
-    ≡ Ok (record {
-      role = Some (Proposing (ballot 1 1) 1 b []);
-      seen = 0;
-      drop_first = false;
-      change = None;
-      messages =
-          message 1 1 (Accept (ballot 1 1) 1 b)
-          ∷ message 1 2 (Accept (ballot 1 1) 1 b)
-          ∷ message 1 3 (Accept (ballot 1 1) 1 b)
-          ∷ [];
-    })
+leader_start : start 3 1 (with_promise (ballot 1 1)) 1 (once_leading (b ∷ a ∷ [])) ≡ Ok (record {
+  role = Some (Proposing (ballot 1 1) 1 b []);
+  seen = 0;
+  drop_first = false;
+  change = None;
+  messages =
+      message 1 1 (Accept (ballot 1 1) 1 b) ∷ message 1 2 (Accept (ballot 1 1) 1 b)
+      ∷ message 1 3 (Accept (ballot 1 1) 1 b) ∷ [];
+})
 leader_start = refl
 
 leader_tick : tick 3 1 (with_promise (ballot 1 1)) 1 (once_leading (b ∷ a ∷ []))
@@ -165,10 +139,8 @@ full_tick : tick 3 1 (with_promise (ballot 1 1)) 65536 (once_leading (b ∷ []))
 full_tick = refl
 
 -- a kept ballot needs no further number; an outbid leader does
-kept_though_spent :
-    start 3 1 (record { promised = ballot 1 1; vote = None; tried = 4294967295 }) 1
-    (once_leading [])
-    ≡ Ok (only_say (once_leading []) [])
+kept_though_spent : start 3 1 (record { promised = ballot 1 1; vote = None; tried = 4294967295 }) 1
+    (once_leading []) ≡ Ok (only_say (once_leading []) [])
 kept_though_spent = refl
 
 outbid_and_spent : start 3 1 (with_promise (ballot 4294967295 2)) 1 (once_leading (b ∷ []))
@@ -195,22 +167,13 @@ abbrev first_again : List WorldEvent
 first_again =
     second_leader ++ StartAt 1 ∷ deliver (27 ∷ 28 ∷ 30 ∷ 31 ∷ 32 ∷ 33 ∷ 35 ∷ 36 ∷ 37 ∷ [])
 
-first_again_sent : drop 25 (after 3 first_again).sent
-    ≡ message 1 2 (Behind 2)
-    ∷ message 1 1 (Prepare (ballot 3 1) 2)
-    ∷ message 1 2 (Prepare (ballot 3 1) 2)
-    ∷ message 1 3 (Prepare (ballot 3 1) 2)
-    ∷ message 1 1 (Promise (ballot 3 1) 2 None)
-    ∷ message 2 1 (Promise (ballot 3 1) 2 None)
-    ∷ message 1 1 (Accept (ballot 3 1) 2 b)
-    ∷ message 1 2 (Accept (ballot 3 1) 2 b)
-    ∷ message 1 3 (Accept (ballot 3 1) 2 b)
-    ∷ message 1 1 (Accepted (ballot 3 1) 2)
-    ∷ message 2 1 (Accepted (ballot 3 1) 2)
-    ∷ message 1 2 (Decided 2 b)
-    ∷ message 1 3 (Decided 2 b)
-    ∷ message 2 1 (Behind 3)
-    ∷ []
+first_again_sent : drop 25 (after 3 first_again).sent ≡ message 1 2 (Behind 2)
+    ∷ message 1 1 (Prepare (ballot 3 1) 2) ∷ message 1 2 (Prepare (ballot 3 1) 2)
+    ∷ message 1 3 (Prepare (ballot 3 1) 2) ∷ message 1 1 (Promise (ballot 3 1) 2 None)
+    ∷ message 2 1 (Promise (ballot 3 1) 2 None) ∷ message 1 1 (Accept (ballot 3 1) 2 b)
+    ∷ message 1 2 (Accept (ballot 3 1) 2 b) ∷ message 1 3 (Accept (ballot 3 1) 2 b)
+    ∷ message 1 1 (Accepted (ballot 3 1) 2) ∷ message 2 1 (Accepted (ballot 3 1) 2)
+    ∷ message 1 2 (Decided 2 b) ∷ message 1 3 (Decided 2 b) ∷ message 2 1 (Behind 3) ∷ []
 first_again_sent = refl
 
 first_again_log_1 : log_of 3 first_again 1 ≡ a ∷ c ∷ b ∷ []

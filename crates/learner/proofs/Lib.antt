@@ -1,4 +1,5 @@
 pub mod Positions
+pub mod Cases
 pub mod Told
 pub mod Order
 pub mod Sends

@@ -1,75 +1,55 @@
 -- Every entry was submitted, and every ballot tried.
-use Rattle.std.proofs.Common.{◌≡◌, ℕ, zero, suc, ◌≤◌, Bool, true, false, if◌then◌else◌, ◌==◌, List}
-use Rattle.std.proofs.Common.{[], ◌∷◌, ◌++◌, ◌⊎◌, inl, inr, Option, Some, None, Result, Ok, Err}
-use Rattle.std.proofs.Common.{length, slice_get, take, refl, sym, ap, append_assoc, subst, arith}
-use Rattle.std.proofs.Common.{IsOk}
-use Rattle.learner.specs.Invariant.{IsSound}
-use Rattle.learner.proofs.Goes.{put_all, put_here}
+use Rattle.std.proofs.Common.{◌≡◌, suc, ◌≤◌, [], ◌∷◌, ◌⊎◌, inl, inr, Ok, Err, refl, sym, IsOk, ℕ}
+use Rattle.std.proofs.Common.{zero, Bool, true, List, ◌++◌, Some, None, subst, arith, if◌then◌else◌}
+use Rattle.std.proofs.Common.{Option, Result, length, slice_get, append_assoc}
+use Rattle.std.proofs.Math.Seq.{take-append_seam}
+use Rattle.learner.specs.{Invariant.IsSound, declared.event.DeskEvent.DeskEvent, Worlds.happens}
+use Rattle.learner.specs.{Desks.Desk, Desks.restarted, Laws.LogsAreSubmitted, Laws.ContentsStand}
+use Rattle.learner.specs.{Desks.adopt, Desks.passing, Submitted.IsTaken, Submitted.IsSubmitted}
+use Rattle.learner.specs.{Worlds.run, declared.event.WorldEvent.TheVariants.Deliver as DeliverNth}
+use Rattle.learner.specs.{Worlds.after, declared.event.WorldEvent.TheVariants.Restart as RestartAt}
+use Rattle.learner.proofs.{Goes.put_all, Goes.put_here, Contents.start_holds, Contents.tick_holds}
 use Rattle.learner.proofs.Runs.{desk_from_test, happens_follows, new_sound, run_append}
 use Rattle.learner.specs.Contents.{ReportHolds, BodyHolds, MessagesHold, VoteHolds, HeardHolds}
 use Rattle.learner.specs.Contents.{RoleHolds, DeskHolds, WorldHolds, IsTried}
 use Rattle.learner.proofs.Contents.{Fits, ResultHolds, ResultFits, push_holds, get_holds}
 use Rattle.learner.proofs.Contents.{messages_append, message_at, adopt_holds, body_holds}
-use Rattle.learner.proofs.Contents.{start_holds, tick_holds}
-use Rattle.acceptor.specs.declared.ballot.Ballot.{Ballot}
-use Rattle.acceptor.specs.Ballots.{no_ballot}
-use Rattle.acceptor.specs.declared.entry.Entry.{Entry}
-use Rattle.acceptor.specs.declared.message.Report.{Report}
-use Rattle.acceptor.specs.declared.message.Body.{Body}
-use Rattle.acceptor.specs.declared.message.Message.{Message}
+use Rattle.acceptor.specs.declared.{ballot.Ballot.Ballot, entry.Entry.Entry, stored.Vote.Vote}
+use Rattle.acceptor.specs.{Ballots.no_ballot, declared.stored.Change.Change, Storing.stored_after}
+use Rattle.acceptor.specs.declared.message.{Report.Report, Body.Body, Message.Message}
 use Rattle.acceptor.specs.declared.message.Body.TheVariants.{Prepare, Promise, Accept, Accepted}
 use Rattle.acceptor.specs.declared.message.Body.TheVariants.{Nack, Behind, Decided}
-use Rattle.acceptor.specs.declared.stored.Vote.{Vote}
-use Rattle.proposer.specs.declared.role.PromisingDesk.{PromisingDesk}
-use Rattle.proposer.specs.declared.role.Role.{Role}
-use Rattle.learner.specs.Desks.{Desk, restarted, adopt, passing}
+use Rattle.proposer.specs.declared.role.{PromisingDesk.PromisingDesk, Role.Role}
 use Rattle.proposer.specs.declared.plan.Plan.{Plan}
-use Rattle.acceptor.specs.declared.stored.Change.{Change}
 use Rattle.proposer.specs.declared.role.Role.TheVariants.{Idle, Gathering, Proposing, Leading}
 use Rattle.acceptor.specs.declared.stored.Change.TheVariants.{Promised, Voted, Tried, Appended}
-use Rattle.proposer.specs.Plans.{Passing}
-use Rattle.proposer.specs.Proposing.{is_full, start, tick}
-use Rattle.proposer.specs.declared.fault.Refusal.{Refusal}
-use Rattle.proposer.specs.declared.fault.Refusal.TheVariants.{Busy, LogFull}
-use Rattle.learner.specs.declared.event.DeskEvent.{DeskEvent}
-use Rattle.learner.specs.declared.event.WorldEvent.{WorldEvent}
+use Rattle.proposer.specs.{Proposing.start, Proposing.tick, declared.fault.Refusal.Refusal}
+use Rattle.learner.specs.declared.event.WorldEvent.{WorldEvent, TheVariants.Submit as SubmitAt}
 use Rattle.learner.specs.Worlds.{World, new_world, put, world_after, at_desk, nth_sent, delivered}
-use Rattle.learner.specs.Worlds.{happens, run, after}
 use Rattle.learner.specs.declared.event.DeskEvent.TheVariants.{Submit, Start, Tick, Deliver}
-use Rattle.learner.specs.declared.event.WorldEvent.TheVariants.{Submit as SubmitAt}
 use Rattle.learner.specs.declared.event.WorldEvent.TheVariants.{Start as StartAt, Tick as TickAt}
-use Rattle.learner.specs.declared.event.WorldEvent.TheVariants.{Deliver as DeliverNth}
-use Rattle.learner.specs.declared.event.WorldEvent.TheVariants.{Restart as RestartAt}
-use Rattle.learner.specs.Laws.{LogsAreSubmitted, ContentsStand}
-use Rattle.acceptor.specs.Storing.{stored_after}
-use Rattle.learner.specs.Steps.{planned, done, idle, passed, is_desk, is_heeded, on_body, step}
-use Rattle.learner.specs.Submitted.{IsTaken, IsSubmitted}
+use Rattle.learner.specs.Steps.{planned, done, idle, is_desk, is_heeded, on_body, step, Done}
+use Rattle.learner.proofs.Cases.{by_test, submit_cases}
 
 -- what the event submits and its desk takes
 abbrev EventHolds : (Entry → Type 0) → ℕ → World → WorldEvent → Type 0
 EventHolds P n w (SubmitAt d e) = IsTaken n w d e → P e
-EventHolds P n w (StartAt d) = Unit {0}
-EventHolds P n w (TickAt d) = Unit {0}
-EventHolds P n w (DeliverNth k) = Unit {0}
-EventHolds P n w (RestartAt d) = Unit {0}
+EventHolds P n w _ = Unit {0}
 
 abbrev EventFits : (Ballot → Type 0) → ℕ → World → WorldEvent → Type 0
-EventFits Q n w (SubmitAt d e) = Unit {0}
 EventFits Q n w (StartAt d) =
     is_desk n d ≡ true
     → ResultFits Q d (start n d (w.desks d).stored (length (w.desks d).log) (passing (w.desks d)))
 EventFits Q n w (TickAt d) =
     is_desk n d ≡ true
     → ResultFits Q d (tick n d (w.desks d).stored (length (w.desks d).log) (passing (w.desks d)))
-EventFits Q n w (DeliverNth k) = Unit {0}
-EventFits Q n w (RestartAt d) = Unit {0}
+EventFits Q n w _ = Unit {0}
 
 abbrev AreReal : (Ballot → Type 0) → Type 0
 AreReal Q = (b : Ballot) → Q b → 1 ≤ b.number
 
 put_holds : (P : Entry → Type 0) (Q : Ballot → Type 0) (w : World) (d : ℕ) (y : Desk)
-    (out : List Message)
-    → WorldHolds P Q w → DeskHolds P Q y → MessagesHold P Q out
+    (out : List Message) → WorldHolds P Q w → DeskHolds P Q y → MessagesHold P Q out
     → WorldHolds P Q (record { desks = put w.desks d y; sent = w.sent ++ out })
 put_holds P Q w d y out h k m =
     record {
@@ -78,8 +58,7 @@ put_holds P Q w d y out h k m =
     }
 
 planned_holds : (P : Entry → Type 0) (Q : Ballot → Type 0) (w : World) (d : ℕ)
-    (r : Result Plan Refusal)
-    → WorldHolds P Q w → ResultHolds P Q r
+    (r : Result Plan Refusal) → WorldHolds P Q w → ResultHolds P Q r
     → WorldHolds P Q (world_after w d (planned (w.desks d) r))
 planned_holds P Q w d (Ok p) h k =
     put_holds P Q w d (adopt (w.desks d) p) p.messages h
@@ -87,94 +66,52 @@ planned_holds P Q w d (Ok p) h k =
 planned_holds P Q w d (Err why) h k = h
 
 at_desk_holds : (P : Entry → Type 0) (Q : Ballot → Type 0) (n : ℕ) (w : World) (d : ℕ)
-    (event : DeskEvent)
-    → WorldHolds P Q w
+    (event : DeskEvent) → WorldHolds P Q w
     → (is_desk n d ≡ true → WorldHolds P Q (world_after w d (step n d (w.desks d) event)))
     → WorldHolds P Q (at_desk n w d event)
-at_desk_holds P Q n w d event h k = go (is_desk n d) refl
-  where
-    go : (t : Bool) → is_desk n d ≡ t
-        → WorldHolds P Q (if t then world_after w d (step n d (w.desks d) event) else w)
-    go true e = k e
-    go false e = h
+at_desk_holds P Q n w d event h k =
+    by_test (WorldHolds P Q) (is_desk n d) (world_after w d (step n d (w.desks d) event)) w k
+    (λ e. h)
 
 submit_holds : (P : Entry → Type 0) (Q : Ballot → Type 0) (n : ℕ) (w : World) (d : ℕ) (e : Entry)
     → WorldHolds P Q w → (IsOk (step n d (w.desks d) (Submit e)) → P e)
     → WorldHolds P Q (world_after w d (step n d (w.desks d) (Submit e)))
-submit_holds P Q n w d e h k = busy (length (w.desks d).queue == 64) k
-  where
-    was : DeskHolds P Q (w.desks d)
-    was = h.desks d
-
-    taken : Result Passing Refusal
-    taken =
-        Ok
-        (record {
-          role = (w.desks d).role;
-          queue = (w.desks d).queue ++ e ∷ [];
-          seen = (w.desks d).seen;
-        })
-
-    full : (t : Bool) → (IsOk (passed (w.desks d) (if t then Err LogFull else taken)) → P e)
-        → WorldHolds P Q (world_after w d (passed (w.desks d) (if t then Err LogFull else taken)))
-    full true k = h
-    full false k =
-        put_holds P Q w d _ [] h (record {
-          promised =
-              was.promised;
-          vote = was.vote;
-          log = was.log;
-          role = was.role;
-          queue = push_holds P (w.desks d).queue e was.queue (k refl);
-        }) tt
-
-    busy : (t : Bool)
-        → (IsOk
-        (passed (w.desks d)
-        (if t then Err Busy else (if is_full (length (w.desks d).log) then Err LogFull else taken)))
-        → P e)
-        → WorldHolds P Q
-        (world_after w d
-        (passed (w.desks d)
-        (if t then Err Busy
-        else (if is_full (length (w.desks d).log) then Err LogFull else taken))))
-    busy true k = h
-    busy false k = full (is_full (length (w.desks d).log)) k
+submit_holds P Q n w d e h k =
+    let was : DeskHolds P Q (w.desks d) = h.desks d in
+    submit_cases
+    (λ (r : Result Done Refusal). (IsOk r → P e) → WorldHolds P Q (world_after w d r)) n d
+    (w.desks d) e (λ i. h) (λ i. h) (λ i.
+    put_holds P Q w d (record (w.desks d) { queue = (w.desks d).queue ++ e ∷ [] }) [] h (record {
+      promised = was.promised;
+      vote = was.vote;
+      log = was.log;
+      role = was.role;
+      queue = push_holds P (w.desks d).queue e was.queue (i refl);
+    }) tt) k
 
 deliver_holds : (P : Entry → Type 0) (Q : Ballot → Type 0) → AreReal Q
     → (n : ℕ) (w : World) (d : ℕ) (m : Message) → WorldHolds P Q w → BodyHolds P Q m.body
     → WorldHolds P Q (world_after w d (step n d (w.desks d) (Deliver m)))
-deliver_holds P Q real n w d m h k = go (is_heeded n d m)
-  where
-    go : (t : Bool)
-        → WorldHolds P Q
-        (world_after w d
-        (if t then Ok (done (w.desks d) (on_body n d (w.desks d) m.from m.body))
-        else Ok (idle (w.desks d))))
-    go true =
-        let p = body_holds P Q real n d (w.desks d) m.from m.body (h.desks d) k in
-        put_holds P Q w d (adopt (w.desks d) (on_body n d (w.desks d) m.from m.body))
-        (on_body n d (w.desks d) m.from m.body).messages h
-        (adopt_holds P Q (w.desks d) (on_body n d (w.desks d) m.from m.body) (h.desks d) p)
-        p.messages
-    go false = put_holds P Q w d (w.desks d) [] h (h.desks d) tt
+deliver_holds P Q real n w d m h k =
+    by_test (λ (r : Result Done Refusal). WorldHolds P Q (world_after w d r)) (is_heeded n d m)
+    (Ok (done (w.desks d) (on_body n d (w.desks d) m.from m.body))) (Ok (idle (w.desks d))) (λ t.
+    planned_holds P Q w d (Ok (on_body n d (w.desks d) m.from m.body)) h
+    (body_holds P Q real n d (w.desks d) m.from m.body (h.desks d) k))
+    (λ t. put_holds P Q w d (w.desks d) [] h (h.desks d) tt)
 
 happens_holds : (P : Entry → Type 0) (Q : Ballot → Type 0) → AreReal Q
     → (n : ℕ) (w : World) (event : WorldEvent) → WorldHolds P Q w → EventHolds P n w event
-    → EventFits Q n w event
-    → WorldHolds P Q (happens n w event)
+    → EventFits Q n w event → WorldHolds P Q (happens n w event)
 happens_holds P Q real n w (SubmitAt d e) h k f =
     at_desk_holds P Q n w d (Submit e) h
     (λ t. submit_holds P Q n w d e h (λ ok. k (record { ours = desk_from_test n d t; taken = ok })))
 happens_holds P Q real n w (StartAt d) h k f =
-    at_desk_holds P Q n w d Start h
-    (λ t.
+    at_desk_holds P Q n w d Start h (λ t.
     planned_holds P Q w d
     (start n d (w.desks d).stored (length (w.desks d).log) (passing (w.desks d))) h
     (start_holds P Q n d (w.desks d) (h.desks d) (f t)))
 happens_holds P Q real n w (TickAt d) h k f =
-    at_desk_holds P Q n w d Tick h
-    (λ t.
+    at_desk_holds P Q n w d Tick h (λ t.
     planned_holds P Q w d
     (tick n d (w.desks d).stored (length (w.desks d).log) (passing (w.desks d))) h
     (tick_holds P Q n d (w.desks d) (h.desks d) (f t)))
@@ -190,30 +127,20 @@ happens_holds P Q real n w (DeliverNth k) h i f = go (nth_sent w.sent k) (at k)
     go (Some m) said =
         at_desk_holds P Q n w m.to (Deliver m) h
         (λ t. deliver_holds P Q real n w m.to m h (said m refl))
-happens_holds P Q real n w (RestartAt d) h k f = go (is_desk n d)
-  where
-    was : DeskHolds P Q (w.desks d)
-    was = h.desks d
-
-    go : (t : Bool)
-        → WorldHolds P Q
-        (if t then record { desks = put w.desks d (restarted (w.desks d)); sent = w.sent } else w)
-    go true =
-        record {
-          desks =
-              put_all (λ j z. DeskHolds P Q z) w.desks d (restarted (w.desks d))
-              (record {
-                promised = was.promised;
-                vote = was.vote;
-                log = was.log;
-                role = tt;
-                queue =
-                    tt;
-              })
-              h.desks;
-          sent = h.sent;
-        }
-    go false = h
+happens_holds P Q real n w (RestartAt d) h k f =
+    let was : DeskHolds P Q (w.desks d) = h.desks d in
+    by_test (WorldHolds P Q) (is_desk n d)
+    (record { desks = put w.desks d (restarted (w.desks d)); sent = w.sent }) w (λ t. record {
+      desks =
+          put_all (λ j z. DeskHolds P Q z) w.desks d (restarted (w.desks d)) (record {
+            promised = was.promised;
+            vote = was.vote;
+            log = was.log;
+            role = tt;
+            queue = tt;
+          }) h.desks;
+      sent = h.sent;
+    }) (λ t. h)
 
 -- the same of weaker properties of ballots
 body_more : (P : Entry → Type 0) (Q R : Ballot → Type 0) → ((b : Ballot) → Q b → R b)
@@ -273,11 +200,8 @@ result_fits : (n : ℕ) (w : World) (d : ℕ) → is_desk n d ≡ true → (r : 
 result_fits n w d ours (Err why) = tt
 result_fits n w d ours (Ok p) = by_change p.change refl
   where
-    by_change : (c : Option Change) → p.change ≡ c
-        → Fits
-        (IsTried n
-        (record { desks = put w.desks d (adopt (w.desks d) p); sent = w.sent ++ p.messages }))
-        d c
+    by_change : (c : Option Change) → p.change ≡ c → Fits (IsTried n
+        (record { desks = put w.desks d (adopt (w.desks d) p); sent = w.sent ++ p.messages })) d c
     by_change None e = tt
     by_change (Some (Promised b)) e = tt
     by_change (Some (Voted v)) e = tt
@@ -289,45 +213,30 @@ result_fits n w d ours (Ok p) = by_change p.change refl
           tried =
               put_here (λ j z. r ≤ z.stored.tried) w.desks d (adopt (w.desks d) p)
               (subst (λ (c : Option Change). r ≤ (stored_after (w.desks d).stored c).tried) (sym e)
-              (omega arith))
-              d refl;
+              (omega arith)) d refl;
         }
 
 event_fits : (n : ℕ) (w : World) (event : WorldEvent)
     → EventFits (IsTried n (happens n w event)) n w event
-event_fits n w (SubmitAt d e) = tt
 event_fits n w (StartAt d) =
     λ t.
-    subst
-    (λ (b : Bool).
-    ResultFits
-    (IsTried n
-    (if b
-    then world_after w d
-    (planned (w.desks d)
+    subst (λ (b : Bool).
+    ResultFits (IsTried n (if b
+    then world_after w d (planned (w.desks d)
     (start n d (w.desks d).stored (length (w.desks d).log) (passing (w.desks d))))
-    else w))
-    d (start n d (w.desks d).stored (length (w.desks d).log) (passing (w.desks d))))
-    (sym t)
-    (result_fits n w d t
+    else w)) d (start n d (w.desks d).stored (length (w.desks d).log) (passing (w.desks d))))
+    (sym t) (result_fits n w d t
     (start n d (w.desks d).stored (length (w.desks d).log) (passing (w.desks d))))
 event_fits n w (TickAt d) =
     λ t.
-    subst
-    (λ (b : Bool).
-    ResultFits
-    (IsTried n
-    (if b
-    then world_after w d
-    (planned (w.desks d)
+    subst (λ (b : Bool).
+    ResultFits (IsTried n (if b
+    then world_after w d (planned (w.desks d)
     (tick n d (w.desks d).stored (length (w.desks d).log) (passing (w.desks d))))
-    else w))
-    d (tick n d (w.desks d).stored (length (w.desks d).log) (passing (w.desks d))))
-    (sym t)
+    else w)) d (tick n d (w.desks d).stored (length (w.desks d).log) (passing (w.desks d)))) (sym t)
     (result_fits n w d t
     (tick n d (w.desks d).stored (length (w.desks d).log) (passing (w.desks d))))
-event_fits n w (DeliverNth k) = tt
-event_fits n w (RestartAt d) = tt
+event_fits n w _ = tt
 
 -- a whole list of events, each with what it submits
 abbrev EventsHold : (Entry → Type 0) → ℕ → World → List WorldEvent → Type 0
@@ -364,10 +273,6 @@ new_holds P Q =
       sent = tt;
     }
 
-take_length : (xs ys : List WorldEvent) → take (length xs) (xs ++ ys) ≡ xs
-take_length [] ys = refl
-take_length (x ∷ xs) ys = ap (λ zs. x ∷ zs) (take_length xs ys)
-
 get_length : (xs ys : List WorldEvent) (y : WorldEvent)
     → slice_get (xs ++ y ∷ ys) (length xs) ≡ Some y
 get_length [] ys y = refl
@@ -383,7 +288,7 @@ taken_is_submitted n before rest d e taken =
       event = get_length before rest (SubmitAt d e);
       taken =
           subst (λ (es : List WorldEvent). IsTaken n (after n es) d e)
-          (sym (take_length before (SubmitAt d e ∷ rest))) taken;
+          (sym (take-append_seam before (SubmitAt d e ∷ rest))) taken;
     }
 
 -- each event of a list, after those before it, submits what the whole list submits
@@ -393,8 +298,7 @@ all_submit n before [] = tt
 all_submit n before (e ∷ rest) = (
   one e,
   subst (λ (w : World). EventsHold (IsSubmitted n (before ++ e ∷ rest)) n w rest)
-      (run_append n new_world before (e ∷ []))
-      (subst
+      (run_append n new_world before (e ∷ [])) (subst
       (λ (es : List WorldEvent). EventsHold (IsSubmitted n es) n (after n (before ++ e ∷ [])) rest)
       (append_assoc before (e ∷ []) rest) (all_submit n (before ++ e ∷ []) rest)),
 )

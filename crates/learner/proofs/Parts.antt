@@ -2,11 +2,9 @@
 use Rattle.std.proofs.Common.{◌≡◌, ℕ, Option, Some, refl, subst}
 use Rattle.acceptor.specs.declared.message.Body.TheVariants.{Promise, Accept, Accepted, Decided}
 use Rattle.acceptor.specs.declared.stored.Vote.{Vote}
-use Rattle.learner.specs.Order.{IsAtMost}
-use Rattle.learner.specs.Worlds.{World}
+use Rattle.learner.specs.{Order.IsAtMost, Worlds.World, Parts.DecisionsAreChosen, Parts.RolesStand}
 use Rattle.learner.specs.Invariant.{Asked, IsSound, VoteStands}
 use Rattle.learner.specs.Parts.{HasOneEntry, VotesStand, PromisesStand, AcceptsAreBacked}
-use Rattle.learner.specs.Parts.{DecisionsAreChosen, RolesStand}
 
 pub has_one_entry : (n : ℕ) (w : World) → IsSound n w → HasOneEntry w
 has_one_entry n w sound = sound.one

@@ -1,9 +1,7 @@
 -- Where an id is first, after one more entry.
 use Rattle.std.proofs.Common.{◌≡◌, ℕ, ◌+◌, Bool, true, false, if◌then◌else◌, ◌==◌, List, [], ◌∷◌}
 use Rattle.std.proofs.Common.{◌++◌, Option, Some, None, is_some, length, refl, sym, ap, ◌∙◌, subst}
-use Rattle.std.proofs.Common.{arith}
-use Rattle.std.proofs.lemmas.Bool.Decides.{nat_tests}
-use Rattle.std.specs.List.{position_from}
+use Rattle.std.{proofs.Common.arith, proofs.lemmas.Bool.Decides.nat_tests, specs.List.position_from}
 use Rattle.acceptor.specs.declared.entry.Entry.{Entry}
 use Rattle.learner.specs.Logs.{position_of}
 
@@ -26,8 +24,7 @@ position_more t i (x ∷ xs) e = go (t x) (position_more t (i + 1) xs e)
     more : i + 1 + length xs ≡ i + length (x ∷ xs)
     more = omega arith
 
-    go : (b : Bool)
-        → position_from t (i + 1) (xs ++ e ∷ [])
+    go : (b : Bool) → position_from t (i + 1) (xs ++ e ∷ [])
         ≡ first_of_both (position_from t (i + 1) xs)
         (if t e then Some (i + 1 + length xs) else None)
         → (if b then Some i else position_from t (i + 1) (xs ++ e ∷ []))

@@ -1,43 +1,31 @@
 -- Every list of events keeps the invariant.
-use Rattle.std.proofs.Common.{◌≡◌, ℕ, zero, suc, ◌≤◌, Bool, true, false, if◌then◌else◌, ◌==◌, List}
-use Rattle.std.proofs.Common.{[], ◌∷◌, ◌++◌, Option, Some, None, Result, Ok, Err, length, refl, sym}
-use Rattle.std.proofs.Common.{ap, ◌∙◌, append_assoc, subst, arith}
-use Rattle.std.proofs.lemmas.List.{append-nil}
-use Rattle.std.proofs.lemmas.Bool.Decides.{nat_tests}
-use Rattle.learner.proofs.Evolves.{prefix_self, prefix_trans}
-use Rattle.learner.proofs.Sends.{sent_at}
-use Rattle.learner.specs.Invariant.{IsSound}
-use Rattle.learner.proofs.Goes.{Follows, follows_self, goes_follows}
-use Rattle.learner.proofs.Quiet.{plain_none, says_goes, idle_goes}
+use Rattle.std.proofs.Common.{◌≡◌, ℕ, zero, suc, ◌≤◌, true, List, [], ◌∷◌, ◌++◌, Option, Some, None}
+use Rattle.std.proofs.Common.{Result, Ok, Err, length, refl, sym, ap, ◌∙◌, append_assoc, subst}
+use Rattle.std.proofs.Common.{arith}
+use Rattle.std.proofs.lemmas.{List.append-nil, Bool.Decides.nat_tests}
+use Rattle.learner.proofs.{Evolves.prefix_self, Goes.Follows, Goes.follows_self, Goes.goes_follows}
+use Rattle.learner.proofs.{Evolves.prefix_trans, Quiet.plain_none, Quiet.says_goes, Quiet.idle_goes}
+use Rattle.learner.proofs.{Sends.sent_at, Promised.promise_heard_goes, Counted.accepted_goes}
+use Rattle.learner.specs.{Invariant.IsSound, declared.event.DeskEvent.DeskEvent, Laws.IsPrefix}
+use Rattle.learner.specs.{Desks.restarted, Desks.adopt, Desks.passing, Steps.on_body, Steps.step}
 use Rattle.learner.proofs.Prepared.{PlanGoes, prepare_goes, accept_goes}
-use Rattle.learner.proofs.Promised.{promise_heard_goes}
-use Rattle.learner.proofs.Counted.{accepted_goes}
 use Rattle.learner.proofs.Learned.{nack_goes, decided_goes, behind_goes}
 use Rattle.learner.proofs.Begun.{ResultGoes, start_goes, tick_goes}
-use Rattle.acceptor.specs.declared.entry.Entry.{Entry}
-use Rattle.acceptor.specs.declared.message.Body.{Body}
-use Rattle.acceptor.specs.declared.message.Message.{Message}
+use Rattle.acceptor.specs.declared.{entry.Entry.Entry, message.Body.Body, message.Message.Message}
 use Rattle.acceptor.specs.Messages.{Sent}
 use Rattle.acceptor.specs.declared.message.Body.TheVariants.{Prepare, Promise, Accept, Accepted}
 use Rattle.acceptor.specs.declared.message.Body.TheVariants.{Nack, Behind, Decided}
 use Rattle.proposer.specs.declared.plan.Plan.{Plan}
-use Rattle.learner.specs.Desks.{restarted, adopt, passing}
-use Rattle.proposer.specs.Plans.{Passing}
-use Rattle.proposer.specs.Proposing.{is_full, start, tick}
-use Rattle.proposer.specs.declared.fault.Refusal.{Refusal}
-use Rattle.proposer.specs.declared.fault.Refusal.TheVariants.{Busy, LogFull}
-use Rattle.learner.specs.declared.event.DeskEvent.{DeskEvent}
-use Rattle.learner.specs.declared.event.WorldEvent.{WorldEvent}
+use Rattle.proposer.specs.{Proposing.start, Proposing.tick, declared.fault.Refusal.Refusal}
+use Rattle.learner.specs.declared.event.WorldEvent.{WorldEvent, TheVariants.Submit as SubmitAt}
 use Rattle.learner.specs.Worlds.{World, new_world, put, world_after, at_desk, nth_sent, delivered}
 use Rattle.learner.specs.Worlds.{restart_at, happens, run, after}
 use Rattle.learner.specs.declared.event.DeskEvent.TheVariants.{Submit, Start, Tick, Deliver}
-use Rattle.learner.specs.declared.event.WorldEvent.TheVariants.{Submit as SubmitAt}
 use Rattle.learner.specs.declared.event.WorldEvent.TheVariants.{Start as StartAt, Tick as TickAt}
 use Rattle.learner.specs.declared.event.WorldEvent.TheVariants.{Deliver as DeliverNth}
 use Rattle.learner.specs.declared.event.WorldEvent.TheVariants.{Restart as RestartAt}
-use Rattle.learner.specs.Steps.{IsDesk, Done, planned, done, idle, passed, is_desk, is_heeded}
-use Rattle.learner.specs.Steps.{on_body, step}
-use Rattle.learner.specs.Laws.{IsPrefix}
+use Rattle.learner.specs.Steps.{IsDesk, Done, planned, done, idle, is_desk, is_heeded}
+use Rattle.learner.proofs.Cases.{by_test, submit_cases}
 
 pub desk_from_test : (n d : ℕ) → is_desk n d ≡ true → IsDesk n d
 desk_from_test n d h = (grind (arith, nat_tests), grind (arith, nat_tests))
@@ -68,75 +56,39 @@ planned_follows n w d sound (Err why) h = follows_self n w sound
 
 submit_follows : (n : ℕ) (w : World) (d : ℕ) (e : Entry) → IsSound n w
     → DoneFollows n w d (step n d (w.desks d) (Submit e))
-submit_follows n w d e sound = busy (length (w.desks d).queue == 64)
-  where
-    taken : Result Passing Refusal
-    taken =
-        Ok
-        (record {
-          role = (w.desks d).role;
-          queue = (w.desks d).queue ++ e ∷ [];
-          seen = (w.desks d).seen;
-        })
-
-    full : (t : Bool) → DoneFollows n w d (passed (w.desks d) (if t then Err LogFull else taken))
-    full true = follows_self n w sound
-    full false =
-        goes_follows n w d _ [] sound
-        (says_goes n w d sound ((w.desks d).queue ++ e ∷ []) (w.desks d).seen []
-        (plain_none n w.sent d))
-
-    busy : (t : Bool)
-        → DoneFollows n w d
-        (passed (w.desks d)
-        (if t then Err Busy else (if is_full (length (w.desks d).log) then Err LogFull else taken)))
-    busy true = follows_self n w sound
-    busy false = full (is_full (length (w.desks d).log))
+submit_follows n w d e sound =
+    submit_cases (DoneFollows n w d) n d (w.desks d) e (follows_self n w sound)
+    (follows_self n w sound)
+    (goes_follows n w d (record (w.desks d) { queue = (w.desks d).queue ++ e ∷ [] }) [] sound
+    (says_goes n w d sound ((w.desks d).queue ++ e ∷ []) (w.desks d).seen []
+    (plain_none n w.sent d)))
 
 deliver_follows : (n : ℕ) (w : World) (d : ℕ) (m : Message) → IsSound n w → (1 ≤ d) × (d ≤ n)
     → Sent w.sent m.from m.body → DoneFollows n w d (step n d (w.desks d) (Deliver m))
-deliver_follows n w d m sound ours said = heeded (is_heeded n d m) refl
-  where
-    heeded : (t : Bool) → is_heeded n d m ≡ t
-        → DoneFollows n w d
-        (if t then Ok (done (w.desks d) (on_body n d (w.desks d) m.from m.body))
-        else Ok (idle (w.desks d)))
-    heeded true e =
-        let theirs : is_desk n m.from ≡ true = grind (arith, nat_tests) in
-        goes_follows n w d _ _ sound
-        (body_goes n w d m.from sound ours (desk_from_test n m.from theirs) m.body said)
-    heeded false e =
-        goes_follows n w d _ [] sound
-        (says_goes n w d sound (w.desks d).queue (w.desks d).seen [] (plain_none n w.sent d))
+deliver_follows n w d m sound ours said =
+    by_test (DoneFollows n w d) (is_heeded n d m)
+    (Ok (done (w.desks d) (on_body n d (w.desks d) m.from m.body))) (Ok (idle (w.desks d))) (λ e.
+    let theirs : is_desk n m.from ≡ true = grind (arith, nat_tests) in
+    goes_follows n w d _ _ sound
+    (body_goes n w d m.from sound ours (desk_from_test n m.from theirs) m.body said)) (λ e.
+    goes_follows n w d _ [] sound
+    (says_goes n w d sound (w.desks d).queue (w.desks d).seen [] (plain_none n w.sent d)))
 
 at_desk_follows : (n : ℕ) (w : World) (d : ℕ) (event : DeskEvent) → IsSound n w
     → ((1 ≤ d) × (d ≤ n) → DoneFollows n w d (step n d (w.desks d) event))
     → Follows n w (at_desk n w d event)
-at_desk_follows n w d event sound h = go (is_desk n d) refl
-  where
-    go : (t : Bool) → is_desk n d ≡ t
-        → Follows n w (if t then world_after w d (step n d (w.desks d) event) else w)
-    go true e = h (desk_from_test n d e)
-    go false e = follows_self n w sound
+at_desk_follows n w d event sound h =
+    by_test (Follows n w) (is_desk n d) (world_after w d (step n d (w.desks d) event)) w
+    (λ e. h (desk_from_test n d e)) (λ e. follows_self n w sound)
 
 restart_follows : (n : ℕ) (w : World) (d : ℕ) → IsSound n w → Follows n w (restart_at n w d)
-restart_follows n w d sound = go (is_desk n d)
-  where
-    all : Follows n w
-        (record { desks = put w.desks d (restarted (w.desks d)); sent = w.sent ++ [] })
-    all =
-        goes_follows n w d (restarted (w.desks d)) [] sound
-        (idle_goes n w d sound [] 0 [] (plain_none n w.sent d))
-
-    go : (t : Bool)
-        → Follows n w
-        (if t then record { desks = put w.desks d (restarted (w.desks d)); sent = w.sent } else w)
-    go true =
-        subst
-        (λ (s : List Message).
-        Follows n w (record { desks = put w.desks d (restarted (w.desks d)); sent = s }))
-        (append-nil w.sent) all
-    go false = follows_self n w sound
+restart_follows n w d sound =
+    by_test (Follows n w) (is_desk n d)
+    (record { desks = put w.desks d (restarted (w.desks d)); sent = w.sent }) w (λ t.
+    subst (λ (s : List Message).
+    Follows n w (record { desks = put w.desks d (restarted (w.desks d)); sent = s }))
+    (append-nil w.sent) (goes_follows n w d (restarted (w.desks d)) [] sound
+    (idle_goes n w d sound [] 0 [] (plain_none n w.sent d)))) (λ t. follows_self n w sound)
 
 -- one event
 pub happens_follows : (n : ℕ) (w : World) (event : WorldEvent) → IsSound n w
@@ -144,14 +96,12 @@ pub happens_follows : (n : ℕ) (w : World) (event : WorldEvent) → IsSound n w
 happens_follows n w (SubmitAt d e) sound =
     at_desk_follows n w d (Submit e) sound (λ ours. submit_follows n w d e sound)
 happens_follows n w (StartAt d) sound =
-    at_desk_follows n w d Start sound
-    (λ ours.
+    at_desk_follows n w d Start sound (λ ours.
     planned_follows n w d sound
     (start n d (w.desks d).stored (length (w.desks d).log) (passing (w.desks d)))
     (start_goes n w d sound ours))
 happens_follows n w (TickAt d) sound =
-    at_desk_follows n w d Tick sound
-    (λ ours.
+    at_desk_follows n w d Tick sound (λ ours.
     planned_follows n w d sound
     (tick n d (w.desks d).stored (length (w.desks d).log) (passing (w.desks d)))
     (tick_goes n w d sound ours))

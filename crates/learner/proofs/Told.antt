@@ -3,13 +3,10 @@ use Rattle.std.proofs.Common.{◌≡◌, ◌-◌, ◌+◌, ◌<◌, ◌≤◌, �
 use Rattle.std.proofs.Common.{nat_lt, List, [], ◌∷◌, ◌++◌, Some, None, length, slice_get, take}
 use Rattle.std.proofs.Common.{drop, refl, sym, ap, subst, ◌∙◌, arith, zero-add}
 use Rattle.std.proofs.lemmas.Bool.Decides.{nat_tests}
-use Rattle.acceptor.specs.declared.entry.Entry.{Entry}
-use Rattle.acceptor.specs.declared.message.Message.{Message}
-use Rattle.acceptor.specs.declared.message.Body.{Body}
+use Rattle.acceptor.specs.declared.{entry.Entry.Entry, message.Message.Message, message.Body.Body}
 use Rattle.acceptor.specs.declared.message.Body.TheVariants.{Behind, Decided}
 use Rattle.acceptor.specs.Messages.{message}
-use Rattle.proposer.specs.Plans.{only_say, IsNothing}
-use Rattle.proposer.specs.Sides.{Side}
+use Rattle.proposer.specs.{Plans.only_say, Plans.IsNothing, Sides.Side}
 use Rattle.learner.specs.Learning.{told, longest_run, behind_plan, behind_body_plan}
 
 get_of_drop : (k i : ℕ) (xs : List Entry) → slice_get (drop k xs) i ≡ slice_get xs (k + i)

@@ -1,11 +1,9 @@
 -- When an entry is chosen at a position: "a value is chosen when a single proposal with that value
 -- has been accepted by a majority of the acceptors" ('Paxos Made Simple', section 2.2).
 use Rattle.std.specs.Prelude.{ℕ, ◌≡◌, ◌<◌, ◌*◌, ◌⊎◌, List, [], ◌∷◌, length}
-use Rattle.acceptor.specs.declared.ballot.Ballot.{Ballot}
-use Rattle.acceptor.specs.declared.entry.Entry.{Entry}
-use Rattle.acceptor.specs.declared.message.Message.{Message}
+use Rattle.acceptor.specs.declared.{ballot.Ballot.Ballot, entry.Entry.Entry}
+use Rattle.acceptor.specs.{declared.message.Message.Message, Messages.Sent}
 use Rattle.acceptor.specs.declared.message.Body.TheVariants.{Accept, Accepted}
-use Rattle.acceptor.specs.Messages.{Sent}
 use Rattle.learner.specs.Steps.{IsDesk}
 
 -- the number is in the list

@@ -1,21 +1,14 @@
 -- Where entries and ballots are in desks and messages: P is a property of entries, Q one of ballots
 -- (the project's own).
 use Rattle.std.specs.Prelude.{ℕ, ◌≡◌, ◌≤◌, ◌⊎◌, List, [], ◌∷◌, Option, Some, None}
-use Rattle.acceptor.specs.declared.ballot.Ballot.{Ballot}
-use Rattle.acceptor.specs.declared.entry.Entry.{Entry}
-use Rattle.acceptor.specs.declared.message.Report.{Report}
-use Rattle.acceptor.specs.declared.message.Body.{Body}
-use Rattle.acceptor.specs.declared.message.Message.{Message}
+use Rattle.acceptor.specs.declared.{ballot.Ballot.Ballot, entry.Entry.Entry, stored.Vote.Vote}
+use Rattle.acceptor.specs.declared.message.{Report.Report, Body.Body, Message.Message}
 use Rattle.acceptor.specs.declared.message.Body.TheVariants.{Prepare, Promise, Accept, Accepted}
 use Rattle.acceptor.specs.declared.message.Body.TheVariants.{Nack, Behind, Decided}
-use Rattle.acceptor.specs.declared.stored.Vote.{Vote}
 use Rattle.acceptor.specs.Ballots.{no_ballot}
-use Rattle.proposer.specs.declared.role.PromisingDesk.{PromisingDesk}
-use Rattle.proposer.specs.declared.role.Role.{Role}
+use Rattle.proposer.specs.declared.role.{PromisingDesk.PromisingDesk, Role.Role}
 use Rattle.proposer.specs.declared.role.Role.TheVariants.{Idle, Gathering, Proposing, Leading}
-use Rattle.learner.specs.Desks.{Desk}
-use Rattle.learner.specs.Steps.{IsDesk}
-use Rattle.learner.specs.Worlds.{World}
+use Rattle.learner.specs.{Desks.Desk, Steps.IsDesk, Worlds.World}
 
 abbrev pub ListHolds : (Entry → Type 0) → List Entry → Type 0
 ListHolds P [] = Unit {0}

@@ -1,13 +1,10 @@
 -- All that a desk knows, and how a plan changes it. A desk is proposer, acceptor and learner in
 -- one, and may stop and restart ('Paxos Made Simple', sections 2.1 and 2.5).
 use Rattle.std.specs.Prelude.{ℕ, List, []}
-use Rattle.acceptor.specs.declared.entry.Entry.{Entry}
-use Rattle.acceptor.specs.declared.stored.Stored.{Stored}
+use Rattle.acceptor.specs.declared.{entry.Entry.Entry, stored.Stored.Stored}
 use Rattle.acceptor.specs.Storing.{first_stored, stored_after, log_after}
-use Rattle.proposer.specs.declared.role.Role.{Role}
-use Rattle.proposer.specs.declared.role.Role.TheVariants.{Idle}
+use Rattle.proposer.specs.declared.{role.Role.Role, role.Role.TheVariants.Idle, plan.Plan.Plan}
 use Rattle.proposer.specs.Plans.{Passing, role_after, queue_after}
-use Rattle.proposer.specs.declared.plan.Plan.{Plan}
 
 -- what it stores, with its log, and what it has as long as it runs
 pub record Desk : Type 0 where

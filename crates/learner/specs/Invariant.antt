@@ -2,23 +2,14 @@
 -- own).
 use Rattle.std.specs.Prelude.{◌≡◌, ℕ, ◌<◌, ◌≤◌, List, [], ◌∷◌, ◌⊎◌, Option, Some, None, slice_get}
 use Rattle.std.specs.Prelude.{length}
-use Rattle.learner.specs.Order.{IsAtMost, IsBelow}
-use Rattle.acceptor.specs.declared.ballot.Ballot.{Ballot}
-use Rattle.acceptor.specs.declared.entry.Entry.{Entry}
-use Rattle.acceptor.specs.declared.message.Report.{Report}
-use Rattle.acceptor.specs.declared.message.Body.{Body}
-use Rattle.acceptor.specs.declared.message.Message.{Message}
+use Rattle.learner.specs.{Order.IsAtMost, Order.IsBelow, Desks.Desk, Steps.IsDesk, Worlds.World}
+use Rattle.acceptor.specs.declared.{ballot.Ballot.Ballot, entry.Entry.Entry, stored.Vote.Vote}
+use Rattle.acceptor.specs.declared.message.{Report.Report, Body.Body, Message.Message}
 use Rattle.acceptor.specs.Messages.{Sent}
-use Rattle.acceptor.specs.declared.message.Body.TheVariants.{Prepare, Promise, Accept, Accepted}
-use Rattle.acceptor.specs.declared.message.Body.TheVariants.{Nack, Behind, Decided}
-use Rattle.acceptor.specs.declared.stored.Vote.{Vote}
-use Rattle.proposer.specs.declared.role.PromisingDesk.{PromisingDesk}
-use Rattle.proposer.specs.declared.role.Role.{Role}
-use Rattle.learner.specs.Desks.{Desk}
+use Rattle.acceptor.specs.declared.message.Body.TheVariants.{Promise, Accept, Accepted, Decided}
+use Rattle.proposer.specs.declared.role.{PromisingDesk.PromisingDesk, Role.Role}
 use Rattle.proposer.specs.declared.role.Role.TheVariants.{Idle, Gathering, Proposing, Leading}
 use Rattle.proposer.specs.Proposing.{highest}
-use Rattle.learner.specs.Steps.{IsDesk}
-use Rattle.learner.specs.Worlds.{World}
 use Rattle.learner.specs.Chosen.{Has, IsDistinct, IsMajority, IsChosen}
 
 -- somebody asked for votes for this entry
@@ -98,13 +89,11 @@ pub record AcceptedStands (sent : List Message) (x : Desk) (b : Ballot) (pos : �
 
 -- what holds of a message that desk d has sent, while it is as x
 abbrev pub Stands : ℕ → List Message → ℕ → Desk → Body → Type 0
-Stands n sent d x (Prepare b pos) = Unit {0}
 Stands n sent d x (Promise b pos v) = PromiseStands sent x b pos v
 Stands n sent d x (Accept b pos e) = AcceptStands n sent d x b pos e
 Stands n sent d x (Accepted b pos) = AcceptedStands sent x b pos
-Stands n sent d x (Nack b pos promised) = Unit {0}
-Stands n sent d x (Behind len) = Unit {0}
 Stands n sent d x (Decided pos e) = IsChosen n sent pos e
+Stands n sent d x _ = Unit {0}
 
 -- the promises that were heard were sent, each by another desk
 pub record GatheringStands (n : ℕ) (sent : List Message) (d top len : ℕ) (b : Ballot) (pos : ℕ)
@@ -114,8 +103,7 @@ pub record GatheringStands (n : ℕ) (sent : List Message) (d top len : ℕ) (b 
   pub place : pos ≡ len
   pub distinct : IsDistinct (desks_of heard)
   pub ours : (k : ℕ) → Has (desks_of heard) k → IsDesk n k
-  pub promised : (k : ℕ) (v : Option Report)
-      → HeardFrom heard k v → Sent sent k (Promise b pos v)
+  pub promised : (k : ℕ) (v : Option Report) → HeardFrom heard k v → Sent sent k (Promise b pos v)
 
 -- its Accept was sent, and so were the votes that were heard, each by another desk
 pub record ProposingStands (n : ℕ) (sent : List Message) (d top len : ℕ) (b : Ballot) (pos : ℕ)
@@ -136,8 +124,7 @@ pub record LeadingStands (n : ℕ) (sent : List Message) (d top len : ℕ) (b : 
   pub before : at < len
   pub heard : List PromisingDesk
   pub majority : IsMajority n (desks_of heard)
-  pub promised : (k : ℕ) (v : Option Report)
-      → HeardFrom heard k v → Sent sent k (Promise b at v)
+  pub promised : (k : ℕ) (v : Option Report) → HeardFrom heard k v → Sent sent k (Promise b at v)
 
 abbrev pub RoleStands : ℕ → List Message → ℕ → ℕ → ℕ → Role → Type 0
 RoleStands n sent d top len Idle = Unit {0}

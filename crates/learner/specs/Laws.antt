@@ -1,17 +1,11 @@
 -- What the desks of a hall agree on, after every list of events, for every number n of desks (the
 -- safety of 'Paxos Made Simple', section 2.1, of every position).
 use Rattle.std.specs.Prelude.{ℕ, ◌≡◌, ◌≤◌, ◌<◌, ◌⊎◌, List, ◌++◌, Some, slice_get, take, length}
-use Rattle.acceptor.specs.declared.entry.Entry.{Entry}
-use Rattle.acceptor.specs.declared.message.Message.{Message}
-use Rattle.learner.specs.declared.event.WorldEvent.{WorldEvent}
-use Rattle.learner.specs.Worlds.{World, after, log_of}
-use Rattle.learner.specs.Chosen.{IsChosen}
-use Rattle.learner.specs.Submitted.{IsSubmitted}
-use Rattle.learner.specs.Contents.{WorldHolds, IsTried}
-use Rattle.learner.specs.Ranges.{DeskIsInRange, IsInRange, DoneIsInRange}
-use Rattle.learner.specs.declared.event.DeskEvent.{DeskEvent}
-use Rattle.learner.specs.Desks.{Desk}
-use Rattle.learner.specs.Steps.{IsDesk, step}
+use Rattle.acceptor.specs.declared.{entry.Entry.Entry, message.Message.Message}
+use Rattle.learner.specs.declared.event.{WorldEvent.WorldEvent, DeskEvent.DeskEvent}
+use Rattle.learner.specs.{Worlds.World, Worlds.after, Worlds.log_of, Contents.IsTried, Steps.IsDesk}
+use Rattle.learner.specs.{Chosen.IsChosen, Submitted.IsSubmitted, Contents.WorldHolds, Desks.Desk}
+use Rattle.learner.specs.{Ranges.DeskIsInRange, Ranges.IsInRange, Ranges.DoneIsInRange, Steps.step}
 
 -- what is in a log is chosen: nobody learns that a value is chosen unless it is ('Paxos Made
 -- Simple', section 2.1)

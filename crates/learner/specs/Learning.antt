@@ -2,16 +2,11 @@
 -- a desk takes only the entry for its next position, and asks for what it lacks.
 use Rattle.std.specs.Prelude.{ℕ, suc, ◌+◌, if◌then◌else◌, List, [], ◌∷◌, ◌==◌, nat_lt, length, take}
 use Rattle.std.specs.Prelude.{drop}
-use Rattle.acceptor.specs.declared.entry.Entry.{Entry}
-use Rattle.acceptor.specs.declared.message.Message.{Message}
-use Rattle.acceptor.specs.declared.message.Body.{Body}
-use Rattle.acceptor.specs.declared.message.Body.TheVariants.{Prepare, Promise, Accept, Accepted}
-use Rattle.acceptor.specs.declared.message.Body.TheVariants.{Nack, Behind, Decided}
+use Rattle.acceptor.specs.declared.{entry.Entry.Entry, message.Message.Message, message.Body.Body}
+use Rattle.acceptor.specs.declared.message.Body.TheVariants.{Behind, Decided}
 use Rattle.acceptor.specs.Messages.{message}
-use Rattle.proposer.specs.declared.plan.Plan.{Plan}
-use Rattle.proposer.specs.declared.role.Role.TheVariants.{Idle}
+use Rattle.proposer.specs.{declared.plan.Plan.Plan, declared.role.Role.TheVariants.Idle, Sides.Side}
 use Rattle.proposer.specs.Plans.{Passing, only_say, append}
-use Rattle.proposer.specs.Sides.{Side}
 
 -- an entry for the next position is taken; one for a later position is answered by the log's length
 abbrev pub on_decided : ℕ → List Entry → Passing → ℕ → ℕ → Entry → Plan
@@ -41,26 +36,16 @@ on_behind d log p from len =
 
 -- a body that is no Decided is none of this step's
 abbrev pub decided_body_plan : ℕ → List Entry → Passing → ℕ → Body → Plan
-decided_body_plan d log p from (Prepare b pos) = only_say p []
-decided_body_plan d log p from (Promise b pos vote) = only_say p []
-decided_body_plan d log p from (Accept b pos e) = only_say p []
-decided_body_plan d log p from (Accepted b pos) = only_say p []
-decided_body_plan d log p from (Nack b pos promised) = only_say p []
-decided_body_plan d log p from (Behind len) = only_say p []
 decided_body_plan d log p from (Decided pos e) = on_decided d log p from pos e
+decided_body_plan d log p from _ = only_say p []
 
 abbrev pub decided_plan : List Entry → Side → Message → Plan
 decided_plan log side m = decided_body_plan side.desk log side.passing m.from m.body
 
 -- a body that is no Behind is none of this step's
 abbrev pub behind_body_plan : ℕ → List Entry → Passing → ℕ → Body → Plan
-behind_body_plan d log p from (Prepare b pos) = only_say p []
-behind_body_plan d log p from (Promise b pos vote) = only_say p []
-behind_body_plan d log p from (Accept b pos e) = only_say p []
-behind_body_plan d log p from (Accepted b pos) = only_say p []
-behind_body_plan d log p from (Nack b pos promised) = only_say p []
 behind_body_plan d log p from (Behind len) = on_behind d log p from len
-behind_body_plan d log p from (Decided pos e) = only_say p []
+behind_body_plan d log p from _ = only_say p []
 
 abbrev pub behind_plan : List Entry → Side → Message → Plan
 behind_plan log side m = behind_body_plan side.desk log side.passing m.from m.body

@@ -2,15 +2,10 @@
 -- parts rest on one another; what it says of submissions and of numbers that were tried is in
 -- Contents.
 use Rattle.std.specs.Prelude.{ℕ, ◌≡◌, ◌≤◌, ◌<◌, Option, Some, slice_get, length}
-use Rattle.acceptor.specs.declared.ballot.Ballot.{Ballot}
-use Rattle.acceptor.specs.declared.entry.Entry.{Entry}
-use Rattle.acceptor.specs.declared.message.Report.{Report}
+use Rattle.acceptor.specs.declared.{ballot.Ballot.Ballot, entry.Entry.Entry, message.Report.Report}
 use Rattle.acceptor.specs.declared.message.Body.TheVariants.{Promise, Accept, Accepted, Decided}
-use Rattle.acceptor.specs.declared.stored.Vote.{Vote}
-use Rattle.acceptor.specs.Messages.{Sent}
-use Rattle.learner.specs.Order.{IsAtMost, IsBelow}
-use Rattle.learner.specs.Worlds.{World}
-use Rattle.learner.specs.Chosen.{IsChosen}
+use Rattle.acceptor.specs.{declared.stored.Vote.Vote, Messages.Sent}
+use Rattle.learner.specs.{Order.IsAtMost, Order.IsBelow, Worlds.World, Chosen.IsChosen}
 use Rattle.learner.specs.Invariant.{Asked, IsBacked, CoversReport, AcceptedStands, RoleAllows}
 use Rattle.learner.specs.Invariant.{RoleStands, OneEntry}
 
@@ -68,10 +63,8 @@ pub record DecisionsAreChosen (n : ℕ) (w : World) : Type 0 where
 pub record RolesStand (n : ℕ) (w : World) : Type 0 where
   pub role : (d : ℕ)
       → RoleStands n w.sent d (w.desks d).stored.tried (length (w.desks d).log) (w.desks d).role
-  pub own : (d : ℕ) (b : Ballot) (pos : ℕ) (e : Entry)
-      → Sent w.sent d (Accept b pos e) → b.desk ≡ d
+  pub own : (d : ℕ) (b : Ballot) (pos : ℕ) (e : Entry) → Sent w.sent d (Accept b pos e) → b.desk ≡ d
   pub tried : (d : ℕ) (b : Ballot) (pos : ℕ) (e : Entry)
       → Sent w.sent d (Accept b pos e) → b.number ≤ (w.desks d).stored.tried
-  pub accept : (d : ℕ) (b : Ballot) (pos : ℕ) (e : Entry)
-      → Sent w.sent d (Accept b pos e)
+  pub accept : (d : ℕ) (b : Ballot) (pos : ℕ) (e : Entry) → Sent w.sent d (Accept b pos e)
       → RoleAllows (w.desks d).role (length (w.desks d).log) b pos

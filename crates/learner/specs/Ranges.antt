@@ -1,16 +1,11 @@
 -- Positions, log lengths, ballots and desk numbers in their ranges (the project's own).
 use Rattle.std.specs.Prelude.{ℕ, ◌≡◌, ◌<◌, ◌≤◌, ⊤, IsTrue, length, List, [], ◌∷◌, Option, Some}
 use Rattle.std.specs.Prelude.{None, Result, Ok, Err}
-use Rattle.acceptor.specs.declared.ballot.Ballot.{Ballot}
-use Rattle.acceptor.specs.declared.message.Message.{Message}
-use Rattle.acceptor.specs.declared.stored.Vote.{Vote}
-use Rattle.proposer.specs.declared.role.Role.{Role}
+use Rattle.acceptor.specs.declared.{ballot.Ballot.Ballot, message.Message.Message, stored.Vote.Vote}
+use Rattle.proposer.specs.declared.{role.Role.Role, fault.Refusal.Refusal}
 use Rattle.proposer.specs.declared.role.Role.TheVariants.{Idle, Gathering, Proposing, Leading}
-use Rattle.learner.specs.Order.{IsAtMost}
-use Rattle.learner.specs.Desks.{Desk}
+use Rattle.learner.specs.{Order.IsAtMost, Desks.Desk, Contents.DeskHolds}
 use Rattle.learner.specs.Steps.{IsDesk, is_in_range, Done}
-use Rattle.proposer.specs.declared.fault.Refusal.{Refusal}
-use Rattle.learner.specs.Contents.{DeskHolds}
 
 -- the message is from a desk of n to one of n, with its fields in their ranges
 pub record IsInRange (n : ℕ) (m : Message) : Type 0 where

@@ -2,21 +2,16 @@
 -- Made Simple', sections 2.2 and 2.3.
 use Rattle.std.specs.Prelude.{ℕ, ◌≤◌, Bool, false, if◌then◌else◌, List, [], ◌∷◌, Some, None, Result}
 use Rattle.std.specs.Prelude.{Ok, Err, ◌==◌, ◌&&◌, nat_lt, nat_le, length, slice_get}
-use Rattle.acceptor.specs.declared.ballot.Ballot.{Ballot}
-use Rattle.acceptor.specs.declared.message.Message.{Message}
-use Rattle.acceptor.specs.Messages.{message}
-use Rattle.acceptor.specs.declared.message.Body.{Body}
+use Rattle.acceptor.specs.{declared.ballot.Ballot.Ballot, Messages.message}
+use Rattle.acceptor.specs.declared.message.{Message.Message, Body.Body}
 use Rattle.acceptor.specs.declared.message.Body.TheVariants.{Prepare, Promise, Accept, Accepted}
 use Rattle.acceptor.specs.declared.message.Body.TheVariants.{Nack, Behind, Decided}
 use Rattle.acceptor.specs.Answers.{Reply, prepare_reply, accept_reply}
-use Rattle.proposer.specs.Plans.{Passing}
-use Rattle.proposer.specs.declared.plan.Plan.{Plan}
+use Rattle.proposer.specs.{Plans.Passing, declared.plan.Plan.Plan, declared.fault.Refusal.Refusal}
 use Rattle.proposer.specs.Proposing.{submit, start, tick, on_promise, on_accepted, on_nack}
-use Rattle.proposer.specs.declared.fault.Refusal.{Refusal}
-use Rattle.learner.specs.declared.event.DeskEvent.{DeskEvent}
+use Rattle.learner.specs.{declared.event.DeskEvent.DeskEvent, Desks.Desk, Desks.adopt}
 use Rattle.learner.specs.declared.event.DeskEvent.TheVariants.{Submit, Start, Tick, Deliver}
-use Rattle.learner.specs.Desks.{Desk, adopt, passing}
-use Rattle.learner.specs.Learning.{on_decided, on_behind}
+use Rattle.learner.specs.{Desks.passing, Learning.on_decided, Learning.on_behind}
 
 -- the desks of a hall are numbered from 1 to n
 abbrev pub IsDesk : ℕ → ℕ → Type 0
@@ -87,14 +82,7 @@ idle x = record { desk = x; messages = [] }
 abbrev pub passed : Desk → Result Passing Refusal → Result Done Refusal
 passed x (Ok p) =
     Ok (record {
-      desk =
-          record {
-            stored = x.stored;
-            log = x.log;
-            role = p.role;
-            queue = p.queue;
-            seen = p.seen;
-          };
+      desk = record x { role = p.role; queue = p.queue; seen = p.seen };
       messages = [];
     })
 passed x (Err why) = Err why

@@ -1,10 +1,8 @@
 -- When an entry was submitted (the project's own).
 use Rattle.std.specs.Prelude.{ℕ, ◌≡◌, IsOk, List, Some, slice_get, take}
 use Rattle.acceptor.specs.declared.entry.Entry.{Entry}
-use Rattle.learner.specs.declared.event.DeskEvent.TheVariants.{Submit}
-use Rattle.learner.specs.declared.event.WorldEvent.{WorldEvent}
-use Rattle.learner.specs.declared.event.WorldEvent.TheVariants.{Submit as SubmitAt}
-use Rattle.learner.specs.Steps.{IsDesk, step}
+use Rattle.learner.specs.{declared.event.DeskEvent.TheVariants.Submit, Steps.IsDesk, Steps.step}
+use Rattle.learner.specs.declared.event.WorldEvent.{WorldEvent, TheVariants.Submit as SubmitAt}
 use Rattle.learner.specs.Worlds.{World, after}
 
 -- there is such a desk, and it takes the entry: it is neither Busy nor is its log full

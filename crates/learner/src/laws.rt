@@ -5,9 +5,8 @@
 ghost use Rattle.learner.specs.Laws.{LogsAreChosen, OneIsChosen, LogsAreSubmitted, LogsAgree};
 ghost use Rattle.learner.specs.Laws.{LogsGrow, EntriesStay, Always, ContentsStand};
 ghost use Rattle.learner.specs.Laws.{MessagesAreInRange, DesksAreInRange, StepsStayInRange};
-ghost use Rattle.learner.specs.Invariant.{IsSound};
+ghost use Rattle.learner.specs.{Invariant.IsSound, Parts.DecisionsAreChosen, Parts.RolesStand};
 ghost use Rattle.learner.specs.Parts.{HasOneEntry, VotesStand, PromisesStand, AcceptsAreBacked};
-ghost use Rattle.learner.specs.Parts.{DecisionsAreChosen, RolesStand};
 
 /// Every log entry is chosen at its position ('Paxos Made Simple', section 2.2).
 pub fn logs_are_chosen()

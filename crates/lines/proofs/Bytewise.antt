@@ -28,8 +28,7 @@ abbrev pub parts : List ℕ → List ℕ → List (List ℕ) × List ℕ
 parts line bs = onto line (lines_and_rest bs)
 
 -- a byte ends the line, or is in it
-pub parts_end : (line bs : List ℕ)
-    → onto line ([] ∷ (lines_and_rest bs).0, (lines_and_rest bs).1)
+pub parts_end : (line bs : List ℕ) → onto line ([] ∷ (lines_and_rest bs).0, (lines_and_rest bs).1)
     ≡ (line ∷ (parts [] bs).0, (parts [] bs).1)
 parts_end line bs =
     onto_end line (lines_and_rest bs)
@@ -64,8 +63,7 @@ unfolding next after_line
 count_of_lines p [] = sym (add-zero p.lines)
 count_of_lines p (b ∷ bs) = step (b == 10) (count_of_lines (next p b) bs)
   where
-    step : (t : Bool)
-        → (after_bytes (moved t p b) bs).lines
+    step : (t : Bool) → (after_bytes (moved t p b) bs).lines
         ≡ (moved t p b).lines + length (parts (moved t p b).line bs).0
         → (after_bytes (moved t p b) bs).lines ≡ p.lines + length (moved_parts t p b bs).0
     step true h =

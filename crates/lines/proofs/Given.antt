@@ -1,20 +1,16 @@
 -- From byte to byte within a line, and from line to line.
-use Rattle.std.proofs.Common.{◌≡◌, ℕ, ◌+◌, ◌<◌, ◌≤◌, Bool, true, false, cond, ◌==◌, ◌&&◌, List, []}
-use Rattle.std.proofs.Common.{◌∷◌, ◌++◌, length, unwrap_or, Option, MatchOption, None, Some, not}
-use Rattle.std.proofs.Common.{refl, sym, ap, ◌∙◌, append_assoc, append-nil, length-append, subst}
-use Rattle.std.proofs.Common.{arith}
-use Rattle.std.proofs.lemmas.Bool.{ltb-true}
-use Rattle.std.proofs.lemmas.Bool.Decides.{nat_tests}
-use Rattle.std.proofs.KnownBytes.{Consumes-trans, Consumes-nil}
-use Rattle.std.specs.Io.KnownBytes.{Consumes, Keeps, IsAtEnd}
-use Rattle.lines.specs.Bytes.{HasLeft}
+use Rattle.std.proofs.Common.{◌≡◌, ℕ, ◌+◌, ◌<◌, ◌∷◌, ◌++◌, None, Some, not, refl, sym, ap, ◌∙◌}
+use Rattle.std.proofs.Common.{Bool, MatchOption, append_assoc, append-nil, length-append, true}
+use Rattle.std.proofs.Common.{false, cond, ◌==◌, ◌&&◌, List, [], length, Option, subst, arith}
+use Rattle.std.proofs.lemmas.Bool.{ltb-true, Decides.nat_tests}
+use Rattle.std.proofs.KnownBytes.{Consumes-trans}
+use Rattle.std.specs.Io.KnownBytes.{Consumes, Keeps}
+use Rattle.lines.specs.{Lines.part_within}
 use Rattle.lines.specs.Lines.{lines_and_rest, whole_lines, rest_of, lines_of, closed, is_within}
-use Rattle.lines.specs.Lines.{part_within, lines_read}
-use Rattle.lines.specs.Reading.{Reading, nothing_read, has_room, HasGiven, GivesLine, GivesNone}
-use Rattle.lines.specs.Reading.{IsAbove, IsBroken}
+use Rattle.lines.specs.Reading.{Reading, has_room, HasGiven, GivesLine, IsAbove, IsBroken}
 use Rattle.lines.specs.model.Stepping.{TakesHeld, TakesNone, Fills, TakesByte, MeetsEnd}
 use Rattle.lines.proofs.More.{with_more, lines_more, room_behind, within_more, all_whole}
-use Rattle.lines.proofs.More.{above_with_more, longest_in_front, read_begins}
+use Rattle.lines.proofs.More.{above_with_more, longest_in_front}
 
 -- a line has begun after bytes whose lines were given
 pub record Midway (p : Reading) (line given : List ℕ) (start now : Option (List ℕ)) : Type 0 where
@@ -191,27 +187,6 @@ is_broken p line given start before now m none kept = record {
     stays (Some xs) None h = absurd h
     stays (Some xs) (Some ys) h = sym h
 
--- the input ends after a whole line
-pub ends_whole : (p q : Reading) (given : List ℕ) (start before now : Option (List ℕ))
-    → Midway p [] given start before → MeetsEnd p q before now → GivesNone q given start now
-ends_whole p q given start before now m e =
-    let held : q.held ≡ [] = ap (λ (r : Reading). r.held) e.same ∙ e.none in
-    record {
-      read = record {
-        consumed =
-            subst (λ x. Consumes start now (given ++ x)) (sym held)
-            (subst (λ x. Consumes start now (x ++ [])) (append-nil given)
-            (consumed_more start before now (given ++ []) p.held [] [] m.consumed e.consumed
-            (append-nil p.held ∙ e.none)));
-        bytes = ap (λ (r : Reading). r.bytes) e.same ∙ m.bytes ∙ ap length (append-nil given);
-        lines = ap (λ (r : Reading). r.lines) e.same ∙ m.lines;
-        within = ap is_within (sym (append-nil given)) ∙ m.within;
-        whole = λ _. ap rest_of (sym (append-nil given)) ∙ m.rest;
-        ended = λ _. (held, e.end);
-      };
-      over = ap (λ (r : Reading). r.over) e.same;
-    }
-
 -- the input ends within a line
 pub ends_within : (p q : Reading) (line given : List ℕ) (start before now : Option (List ℕ))
     → Midway p line given start before → MeetsEnd p q before now → (length line == 0) ≡ false
@@ -243,21 +218,6 @@ ends_within p q line given start before now m e some =
     }
   where
     no : true ≡ false → ⊥
-    no e = cc
-
--- nothing was given
-pub at_start : (start : Option (List ℕ)) → HasGiven nothing_read [] start start
-at_start start =
-    record {
-      consumed = Consumes-nil start;
-      bytes = refl;
-      lines = refl;
-      within = refl;
-      whole = λ _. refl;
-      ended = λ over. absurd (no over);
-    }
-  where
-    no : false ≡ true → ⊥
     no e = cc
 
 -- ---- bytes

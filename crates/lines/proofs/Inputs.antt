@@ -1,14 +1,12 @@
 -- What was given of an input as the front of the whole, and what was written of a text as its
 -- front.
-use Rattle.std.proofs.Common.{◌≡◌, ℕ, Bool, true, false, cond, List, [], ◌∷◌, ◌++◌, length}
+use Rattle.std.proofs.Common.{◌≡◌, ℕ, Bool, true, false, cond, List, [], ◌∷◌, ◌++◌, length, subst}
 use Rattle.std.proofs.Common.{unwrap_or, Option, None, Some, refl, sym, ap, ◌∙◌, append_assoc}
-use Rattle.std.proofs.Common.{append-nil, subst}
-use Rattle.std.proofs.KnownBytes.{Appends-nil, Appends-trans}
+use Rattle.std.proofs.{Common.append-nil, KnownBytes.Appends-nil, KnownBytes.Appends-trans}
 use Rattle.std.specs.Io.KnownBytes.{Appends, Consumes, IsAtEnd}
-use Rattle.lines.specs.Bytes.{Writes, AppendsPart, HasLeft}
+use Rattle.lines.{specs.Bytes.Writes, specs.Bytes.AppendsPart, proofs.More.read_begins}
+use Rattle.lines.specs.{Bytes.HasLeft, Reading.Reading, Reading.HasGiven, Reading.IsAbove}
 use Rattle.lines.specs.Lines.{whole_lines, rest_of, lines_of, is_within, part_within, lines_read}
-use Rattle.lines.specs.Reading.{Reading, HasGiven, IsAbove}
-use Rattle.lines.proofs.More.{read_begins}
 
 -- what is left, where it is known
 abbrev pub left_of : Option (List ℕ) → List ℕ
@@ -41,13 +39,11 @@ has_all p given start now h over =
 
 -- the lines that were given are the first that are read of the input
 pub given_of : (p : Reading) (given : List ℕ) (start now : Option (List ℕ))
-    → HasGiven p given start now
-    → (input : List ℕ) × HasLeft start input
+    → HasGiven p given start now → (input : List ℕ) × HasLeft start input
     × ((others : List (List ℕ)) × (lines_read input ≡ lines_of given ++ others))
 given_of p given start now h = step p.over refl
   where
-    step : (t : Bool) → p.over ≡ t
-        → (input : List ℕ) × HasLeft start input
+    step : (t : Bool) → p.over ≡ t → (input : List ℕ) × HasLeft start input
         × ((others : List (List ℕ)) × (lines_read input ≡ lines_of given ++ others))
     step true over = (
       given,

@@ -1,10 +1,8 @@
 -- Bytes are taken exactly as far as they are within the limits.
 use Rattle.std.proofs.Common.{◌≡◌, ℕ, ◌+◌, ◌<◌, ◌≤◌, Bool, true, false, cond, ◌==◌, ◌&&◌, ◌||◌}
 use Rattle.std.proofs.Common.{nat_le, nat_lt, List, [], ◌∷◌, ◌++◌, length, refl, sym, ap, subst}
-use Rattle.std.proofs.Common.{length-append, arith}
-use Rattle.std.specs.List.{list_all}
-use Rattle.std.proofs.lemmas.Bool.Decides.{nat_tests}
-use Rattle.std.proofs.lemmas.Bool.{leb-true, le-leb}
+use Rattle.std.{proofs.Common.length-append, proofs.Common.arith, specs.List.list_all}
+use Rattle.std.proofs.lemmas.Bool.{Decides.nat_tests, leb-true, le-leb}
 use Rattle.lines.specs.Lines.{onto, lines_and_rest, lines_of, closed, is_within}
 use Rattle.lines.proofs.Machine.{Progress, start, next, after_line, has_room, all_fit}
 use Rattle.lines.proofs.Bytewise.{parts, moved, moved_parts, onto_nothing, onto_more, parts_end}

@@ -1,12 +1,10 @@
 -- One more byte after bytes: their lines, and whether they are within the limits.
 use Rattle.std.proofs.Common.{◌≡◌, ℕ, ◌+◌, ◌<◌, ◌≤◌, Bool, true, false, cond, ◌==◌, ◌&&◌, List, []}
 use Rattle.std.proofs.Common.{◌∷◌, ◌++◌, length, take, refl, sym, ap, ◌∙◌, append_assoc, append-nil}
-use Rattle.std.proofs.Common.{length-append, subst, arith}
-use Rattle.std.proofs.Math.Seq.{take-append_seam}
+use Rattle.std.proofs.{Common.length-append, Common.subst, Common.arith, Math.Seq.take-append_seam}
 use Rattle.lines.specs.Lines.{onto, lines_and_rest, whole_lines, rest_of, lines_of, closed}
 use Rattle.lines.specs.Lines.{is_within, longest_within, part_within, lines_read}
-use Rattle.lines.specs.Reading.{has_room}
-use Rattle.lines.proofs.Limits.{within_fits}
+use Rattle.lines.{specs.Reading.has_room, proofs.Limits.within_fits}
 use Rattle.lines.proofs.Longest.{within_front, longest_begins, longest_ends}
 use Rattle.lines.proofs.Bytewise.{rest_of_input, count_of_input, bytes_of_input}
 use Rattle.lines.proofs.Machine as machine
@@ -99,8 +97,7 @@ whole_begins bs (b ∷ more) =
           ∙ append_assoc (whole_lines bs) one.0 rest.0,
     )
   where
-    step : (t : Bool)
-        → (others : List (List ℕ))
+    step : (t : Bool) → (others : List (List ℕ))
         × ((with_more t (lines_and_rest bs) b).0 ≡ whole_lines bs ++ others)
     step true = (rest_of bs ∷ [], refl)
     step false = ([], sym (append-nil (whole_lines bs)))
@@ -117,8 +114,7 @@ read_begins bs more fits whole = step (is_within (bs ++ more))
     last : List (List ℕ)
     last = cond (length (rest_of (bs ++ more)) == 0) [] (rest_of (bs ++ more) ∷ [])
 
-    step : (t : Bool)
-        → (others : List (List ℕ))
+    step : (t : Bool) → (others : List (List ℕ))
         × (cond t (lines_of (bs ++ more)) (whole_lines (part_within (bs ++ more)))
         ≡ lines_of bs ++ others)
     step true =

@@ -1,8 +1,7 @@
 -- The lines of an input, a line feed after each, are the input.
 use Rattle.std.proofs.Common.{◌≡◌, ℕ, Bool, true, false, cond, ◌==◌, List, [], ◌∷◌, ◌++◌, flat_map}
 use Rattle.std.proofs.Common.{refl, sym, ap, ◌∙◌, arith}
-use Rattle.std.specs.List.{list_all}
-use Rattle.std.proofs.lemmas.Bool.Decides.{nat_tests}
+use Rattle.std.{specs.List.list_all, proofs.lemmas.Bool.Decides.nat_tests}
 use Rattle.lines.specs.Lines.{onto, lines_and_rest, whole_lines, rest_of, is_line, AreParts}
 
 abbrev joined : List (List ℕ) × List ℕ → List ℕ

@@ -1,11 +1,9 @@
 -- Bytes of a line that are taken at once.
-use Rattle.std.proofs.Common.{◌≡◌, ◌≢◌, ℕ, ◌+◌, ◌<◌, ◌≤◌, true, false, ◌==◌, List, [], ◌∷◌, ◌++◌}
-use Rattle.std.proofs.Common.{length, take, drop, slice_index, get_or-take, get_or-drop}
-use Rattle.std.proofs.Common.{length-drop, add-zero, min, Option, refl, sym, ap, ◌∙◌, suc}
-use Rattle.std.proofs.Common.{append_assoc, append-nil, take-append-drop, length-take}
-use Rattle.std.proofs.Common.{length-append, subst, arith}
-use Rattle.std.proofs.lemmas.Bool.Decides.{nat_tests}
-use Rattle.std.proofs.lemmas.List.{take-append-le, drop-append-le}
+use Rattle.std.proofs.Common.{◌≡◌, true, ◌==◌, List, ◌++◌, length, take, drop, Option, subst, arith}
+use Rattle.std.proofs.Common.{◌≢◌, ℕ, ◌+◌, ◌<◌, ◌≤◌, [], ◌∷◌, min, refl, sym, ap, ◌∙◌, suc}
+use Rattle.std.proofs.Common.{false, get_or-take, get_or-drop, length-drop, append-nil, length-take}
+use Rattle.std.proofs.Common.{slice_index, add-zero, append_assoc, take-append-drop, length-append}
+use Rattle.std.proofs.lemmas.{Bool.Decides.nat_tests, List.take-append-le, List.drop-append-le}
 use Rattle.std.proofs.KnownBytes.{Consumes-nil}
 use Rattle.lines.specs.Reading.{Reading, has_room}
 use Rattle.lines.specs.model.Stepping.{TakesByte, IsRoomFor, TakesRun}
@@ -29,8 +27,7 @@ pub takes : (p q : Reading) (before now : List ℕ) (count : ℕ) → now ≡ be
     → count ≤ length p.held → ((k : ℕ) → k < count → slice_index p.held k ≢ 10)
     → (0 < count → IsRoomFor p (length before) count)
     → (count < length p.held → IsRoomFor p (length before) (count + 1)
-    → slice_index p.held count ≡ 10)
-    → TakesRun p q before now
+    → slice_index p.held count ≡ 10) → TakesRun p q before now
 takes p q before now count line is few unended room whole =
     let held : q.held ≡ drop count p.held = ap (λ (r : Reading). r.held) is in
     let counts : length (take count p.held) ≡ count =

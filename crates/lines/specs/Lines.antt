@@ -42,8 +42,7 @@ most_bytes = 39387136
 -- the input has at most this many bytes in all, this many lines, and this many bytes a line
 abbrev pub is_within : List ℕ → Bool
 is_within bs =
-    nat_le (length bs) most_bytes
-    && nat_le (length (lines_of bs)) most_lines
+    nat_le (length bs) most_bytes && nat_le (length (lines_of bs)) most_lines
     && list_all (λ line. nat_le (length line) most_in_line) (lines_of bs)
 
 -- the longest front part, of at most this many bytes, that is within the limits

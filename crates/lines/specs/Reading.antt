@@ -2,9 +2,8 @@
 use Rattle.std.specs.Prelude.{◌≡◌, ℕ, ◌+◌, Bool, true, false, nat_lt, ◌==◌, ◌&&◌, ◌||◌, List, []}
 use Rattle.std.specs.Prelude.{◌∷◌, ◌++◌, length, Option, Result, Ok, Err}
 use Rattle.std.specs.Io.KnownBytes.{Consumes, IsAtEnd}
-use Rattle.lines.specs.Lines.{whole_lines, rest_of, lines_of, is_within, part_within}
-use Rattle.lines.specs.Lines.{most_bytes, most_lines, most_in_line}
-use Rattle.lines.specs.declared.fault.RunFault.{RunFault}
+use Rattle.lines.specs.Lines.{whole_lines, rest_of, lines_of, is_within, part_within, most_bytes}
+use Rattle.lines.specs.{Lines.most_lines, Lines.most_in_line, declared.fault.RunFault.RunFault}
 use Rattle.lines.specs.declared.fault.RunFault.TheVariants as fault
 
 -- how many lines and bytes were given, what was read after them, and whether the input's end was
@@ -66,9 +65,7 @@ abbrev pub GivesFault : RunFault → (given : List ℕ) (start now : Option (Lis
 GivesFault fault.InputTooLong given start now = (rest : List ℕ) × IsAbove given rest start now
 GivesFault fault.Read given start now = (rest : List ℕ) × IsBroken given rest start now
 GivesFault fault.NoMemory given start now = (rest : List ℕ) × Consumes start now (given ++ rest)
-GivesFault fault.Write given start now = ⊥
-GivesFault fault.BadCount given start now = ⊥
-GivesFault (fault.BadLine n) given start now = ⊥
+GivesFault _ given start now = ⊥
 
 -- what a call gives, and how it leaves the reader
 abbrev pub Gives : Result Bool RunFault → Reading

@@ -1,13 +1,12 @@
 -- Giving fates: frames that were cut off stay so, and the drops are counted.
-use Rattle.std.proofs.Common.{◌≡◌, inl, inr, refl, sym, ap, subst, ◌∙◌, ◌⊎◌, ℕ, ◌+◌, List, []}
-use Rattle.std.proofs.Common.{◌∷◌, ◌++◌, drop, arith}
+use Rattle.std.proofs.Common.{◌≡◌, inl, inr, refl, sym, ap, subst, ◌∙◌, ◌⊎◌, ℕ, ◌+◌, List, [], ◌∷◌}
+use Rattle.std.proofs.Common.{◌++◌, drop, arith}
 use Rattle.links.specs.Links.{first_of}
-use Rattle.links.specs.Histories.{Cause, Unreachable, Fate, SentOn, Dropped, Waits}
-use Rattle.links.specs.Histories.{Told, told, if_waits, waiting_of, if_sent_on, sent_on}
-use Rattle.links.specs.Histories.{IsFrontOf, IsCutAt, IsCut, if_dropped, dropped_for}
+use Rattle.links.specs.Histories.{Cause, Unreachable, Fate, SentOn, Dropped, Waits, Told, told}
+use Rattle.links.specs.Histories.{if_waits, waiting_of, if_sent_on, sent_on, IsFrontOf, IsCutAt}
+use Rattle.links.specs.Histories.{IsCut, if_dropped, dropped_for, OrderAt, AreInOrder}
 use Rattle.links.proofs.Fates.{first_here, settle_first, second_here, settle_second, fate_in_all}
 use Rattle.links.proofs.Fates.{settle_all, same_first, same_second, same_all, sent_more}
-use Rattle.links.specs.Histories.{OrderAt, AreInOrder}
 
 -- ---- a frame that was cut off
 

@@ -1,28 +1,21 @@
 -- A connection is begun, opened, or over.
-use Rattle.std.proofs.Common.{◌≡◌, inl, inr, refl, sym, ap, subst, ◌∙◌, ◌⊎◌, ℕ, zero, suc, ◌+◌}
-use Rattle.std.proofs.Common.{◌<◌, ◌≤◌}
-use Rattle.std.proofs.Common.{List, [], ◌∷◌, ◌++◌, length, take, drop, arith, true, false, Bool}
-use Rattle.std.proofs.Common.{length-drop, ◌*◌, min, nat_le, ◌||◌, if◌then◌else◌}
+use Rattle.std.proofs.Common.{◌≡◌, inl, inr, refl, sym, ap, subst, ◌∙◌, ◌⊎◌, ℕ, zero, suc, ◌+◌, ◌<◌}
+use Rattle.std.proofs.Common.{◌≤◌, List, [], ◌∷◌, ◌++◌, length, take, drop, arith, true, false}
+use Rattle.std.proofs.Common.{Bool, length-drop, ◌*◌, min, nat_le, ◌||◌, if◌then◌else◌}
 use Rattle.std.proofs.lemmas.List.{take-append-drop}
-use Rattle.std.proofs.lemmas.Bool.{leb-true, ltb-true}
-use Rattle.std.proofs.lemmas.Bool.Decides.{eqb_tells}
-use Rattle.links.specs.declared.stages.LinkStage.{LinkStage}
-use Rattle.links.specs.declared.stages.LinkStage.TheVariants as stage
-use Rattle.links.specs.Links.{LinkState, IsUnconnected, first_of, has_room, has_some, frames_on}
-use Rattle.links.specs.Links.{after_began, after_opened, opened_at, reached, broken, failed_at}
-use Rattle.links.specs.Links.{after_failed, after_ended, spent_at, with_stage, after_closed}
-use Rattle.links.specs.Links.{closed_at}
-use Rattle.links.specs.Histories.{Full, Unreachable, NoMemory, Dropped}
-use Rattle.links.specs.Histories.{Told, waiting_of, IsFrontOf, IsCut, History}
-use Rattle.links.specs.Histories.{Then, Began, Opened, Failed, Ended, Closed, written, connections}
-use Rattle.links.specs.Histories.{failures}
+use Rattle.std.proofs.lemmas.Bool.{leb-true, ltb-true, Decides.eqb_tells}
+use Rattle.links.{specs.declared.stages.LinkStage.LinkStage, proofs.Orders.order_all}
+use Rattle.links.specs.Links.{LinkState, frames_on, opened_at, failed_at, after_ended, with_stage}
+use Rattle.links.specs.Links.{IsUnconnected, after_began, after_opened, after_failed, after_closed}
+use Rattle.links.specs.Links.{first_of, has_room, has_some, reached, broken, spent_at, closed_at}
+use Rattle.links.specs.Histories.{Full, Unreachable, NoMemory, Dropped, Told, waiting_of, IsFrontOf}
+use Rattle.links.specs.Histories.{IsCut, History, Then, Began, Opened, Failed, Ended, Closed}
+use Rattle.links.specs.Histories.{written, connections, failures, AreInOrder}
 use Rattle.links.proofs.Fates.{settle_all, frames_all, waiting_all, same_all}
-use Rattle.links.proofs.Orders.{order_all, order_next}
-use Rattle.links.specs.Histories.{AreInOrder}
-use Rattle.links.proofs.Cuts.{cut_all, cut_now, count_all}
+use Rattle.links.proofs.{Orders.order_next, Cuts.cut_all, Cuts.cut_now, Cuts.count_all}
 use Rattle.links.proofs.Keeping.{Holds, Same, Past, Now, past_as, front_of, none_begun, no_front}
-use Rattle.links.proofs.Keeping.{joined}
-use Rattle.links.proofs.Keeping.{SameTold, as_next}
+use Rattle.links.proofs.Keeping.{joined, SameTold, as_next}
+use Rattle.links.specs.declared.stages.LinkStage.TheVariants as stage
 
 -- where there is no connection, the last one is over
 next_is_past : (stage : LinkStage) (n : ℕ) (bytes front : List ℕ) (ts : List Told)
@@ -114,10 +107,8 @@ reaches h s ts since now a is =
 
 opens_at : (at : LinkStage) (h : History) (s : LinkState) (ts : List Told) (now : ℕ) → Holds h s ts
     → s.stage ≡ at → Holds h (opened_at at s now) ts
-opens_at stage.Closed h s ts now a is = a
-opens_at (stage.Paused since millis) h s ts now a is = a
 opens_at (stage.Opening since) h s ts now a is = reaches h s ts since now a is
-opens_at (stage.Open frames quiet) h s ts now a is = a
+opens_at _ h s ts now a is = a
 
 pub opens : (h : History) (s : LinkState) (ts : List Told) (now : ℕ) → Holds h s ts
     → Holds (Then h (Opened now)) (after_opened s now) ts

@@ -1,10 +1,8 @@
 -- Giving fates to frames that wait: the first, the second, or all of them.
-use Rattle.std.proofs.Common.{◌≡◌, refl, sym, ap, ◌∙◌, ℕ, List, []}
-use Rattle.std.proofs.Common.{◌∷◌, ◌++◌, drop}
-use Rattle.std.proofs.lemmas.List.{append-nil, append_assoc}
-use Rattle.std.specs.List.{remove}
-use Rattle.links.specs.Histories.{Fate, SentOn, Dropped, Waits}
-use Rattle.links.specs.Histories.{Told, told, frames_of, if_waits, waiting_of, if_sent_on, sent_on}
+use Rattle.std.proofs.Common.{◌≡◌, refl, sym, ap, ◌∙◌, ℕ, List, [], ◌∷◌, ◌++◌, drop}
+use Rattle.std.{proofs.lemmas.List.append-nil, proofs.lemmas.List.append_assoc, specs.List.remove}
+use Rattle.links.specs.Histories.{Fate, SentOn, Dropped, Waits, Told, told, frames_of, if_waits}
+use Rattle.links.specs.Histories.{waiting_of, if_sent_on, sent_on}
 
 -- the first frame that waits gets this fate
 abbrev pub first_here : Fate → Fate → List ℕ → List Told → List Told → List Told

@@ -2,14 +2,11 @@
 use Rattle.std.proofs.Common.{◌≡◌, inl, inr, refl, sym, ap, subst, ◌∙◌, ◌⊎◌, ℕ, zero, suc, ◌<◌, ◌≤◌}
 use Rattle.std.proofs.Common.{List, [], ◌++◌, length, take, true, false, arith}
 use Rattle.std.specs.List.{flat_map}
-use Rattle.links.specs.declared.stages.LinkStage.{LinkStage}
-use Rattle.links.specs.declared.stages.LinkStage.TheVariants as stage
+use Rattle.links.specs.{declared.stages.LinkStage.LinkStage, Histories.AreInOrder}
 use Rattle.links.specs.Links.{LinkState, IsSound, first_of, has_room}
-use Rattle.links.specs.Histories.{Full, NoMemory}
-use Rattle.links.specs.Histories.{Told, frames_of, waiting_of, sent_on}
-use Rattle.links.specs.Histories.{IsCut, History, pushed, written}
-use Rattle.links.specs.Histories.{connections, said, failures, AreSaid}
-use Rattle.links.specs.Histories.{AreInOrder}
+use Rattle.links.specs.Histories.{Full, NoMemory, Told, frames_of, waiting_of, sent_on, IsCut}
+use Rattle.links.specs.Histories.{History, pushed, written, connections, said, failures, AreSaid}
+use Rattle.links.specs.declared.stages.LinkStage.TheVariants as stage
 
 abbrev pub joined : List (List ℕ) → List ℕ
 joined fs = flat_map (λ f. f) fs

@@ -3,15 +3,14 @@ use Rattle.std.proofs.Common.{◌≡◌, inl, inr, refl, sym, ap, subst, ◌∙�
 use Rattle.std.proofs.Common.{List, [], ◌++◌, length, take, arith}
 use Rattle.std.proofs.lemmas.Bool.Decides.{eqb_tells}
 use Rattle.links.specs.declared.stages.LinkStage.{LinkStage}
-use Rattle.links.specs.declared.stages.LinkStage.TheVariants as stage
 use Rattle.links.specs.Links.{LinkState, IsSound, first_of, frames_on, new_link}
-use Rattle.links.specs.Histories.{Told, IsFrontOf, IsCut, IsRest, Carries, Step, Steps}
-use Rattle.links.specs.Histories.{History, Start, Then, Push, Began, Opened, Sent, Failed, Ended}
-use Rattle.links.specs.Histories.{Closed, Leads, connections, written, FramesAreKept}
+use Rattle.links.specs.Histories.{Told, IsFrontOf, IsCut, IsRest, Carries, Step, Steps, History}
+use Rattle.links.specs.Histories.{Start, Then, Push, Began, Opened, Sent, Failed, Ended, Closed}
+use Rattle.links.specs.Histories.{Leads, connections, written, FramesAreKept}
 use Rattle.links.proofs.Keeping.{Holds, Past, Now, front_of, joined}
-use Rattle.links.proofs.Pushes.{pushes}
-use Rattle.links.proofs.Sendings.{sends}
+use Rattle.links.proofs.{Pushes.pushes, Sendings.sends}
 use Rattle.links.proofs.Endings.{begins, opens, fails, ends, closes, front_is_front}
+use Rattle.links.specs.declared.stages.LinkStage.TheVariants as stage
 
 at_start : Holds Start new_link []
 at_start = record {

@@ -1,26 +1,19 @@
 -- A frame is pushed.
-use Rattle.std.proofs.Common.{◌≡◌, refl, sym, ap, subst, ◌∙◌, ℕ, zero, suc, ◌+◌, ◌<◌}
-use Rattle.std.proofs.Common.{List, [], ◌∷◌, ◌++◌, length, take, drop, arith}
-use Rattle.std.proofs.Common.{length-append}
-use Rattle.std.proofs.Common.{if◌then◌else◌}
-use Rattle.std.proofs.lemmas.Bool.{lt-ltb}
-use Rattle.std.specs.List.{remove}
-use Rattle.links.specs.declared.stages.PushOutcome.{PushOutcome}
-use Rattle.links.specs.declared.stages.PushOutcome.TheVariants as push
+use Rattle.std.proofs.Common.{◌≡◌, refl, sym, ap, subst, ◌∙◌, ℕ, zero, suc, ◌+◌, ◌<◌, List, [], ◌∷◌}
+use Rattle.std.proofs.Common.{◌++◌, length, take, drop, arith, length-append, if◌then◌else◌}
+use Rattle.std.{proofs.lemmas.Bool.lt-ltb, specs.List.remove, proofs.lemmas.List.append-nil}
+use Rattle.links.{specs.declared.stages.PushOutcome.PushOutcome, proofs.Orders.order_second}
 use Rattle.links.specs.Links.{LinkState, IsSound, Pushes, first_of, oldest_at, with_waiting}
-use Rattle.links.specs.Histories.{Cause, Full, Unreachable, NoMemory, Fate, Dropped, Waits}
-use Rattle.links.specs.Histories.{Told, told, frames_of, if_waits, waiting_of, if_sent_on}
-use Rattle.links.specs.Histories.{dropped_for, if_dropped, History, Then, Push}
-use Rattle.links.specs.Histories.{says, connections, written}
+use Rattle.links.specs.Histories.{Cause, Full, Unreachable, NoMemory, Fate, Dropped, Waits, Told}
+use Rattle.links.specs.Histories.{told, frames_of, if_waits, waiting_of, if_sent_on, dropped_for}
+use Rattle.links.specs.Histories.{if_dropped, History, Then, Push, says, connections, written}
+use Rattle.links.{specs.Histories.OrderAt, specs.Histories.AreInOrder, proofs.Orders.order_more}
 use Rattle.links.proofs.Fates.{settle_first, settle_second, frames_first, frames_second}
 use Rattle.links.proofs.Fates.{frames_more, waiting_first, waiting_second, waiting_more, same_first}
-use Rattle.links.proofs.Fates.{same_second, sent_more}
-use Rattle.links.proofs.Orders.{order_first, order_second, order_more}
-use Rattle.links.specs.Histories.{OrderAt, AreInOrder}
-use Rattle.links.proofs.Cuts.{cut_first, cut_second, cut_more}
-use Rattle.links.proofs.Cuts.{count_first, count_second, count_more}
+use Rattle.links.proofs.{Fates.same_second, Fates.sent_more, Orders.order_first, Cuts.count_more}
+use Rattle.links.proofs.Cuts.{cut_first, cut_second, cut_more, count_first, count_second}
 use Rattle.links.proofs.Keeping.{Holds, Same, same_both, past_as, now_as, front_of, Now}
-use Rattle.std.proofs.lemmas.List.{append-nil}
+use Rattle.links.specs.declared.stages.PushOutcome.TheVariants as push
 
 -- one more frame with a fate that is no sending
 same_more : (ts : List Told) (frame : List ℕ) (f : Fate) → ((n : ℕ) → if_sent_on n f frame ≡ [])

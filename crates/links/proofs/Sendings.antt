@@ -1,25 +1,20 @@
 -- Bytes are sent.
-use Rattle.std.proofs.Common.{◌≡◌, inl, inr, refl, sym, ap, subst, ◌∙◌, ℕ, ◌+◌, ◌<◌, ◌≤◌}
-use Rattle.std.proofs.Common.{List, [], ◌∷◌, ◌++◌, length, take, drop, arith, true, false, Bool}
-use Rattle.std.proofs.Common.{◌==◌}
+use Rattle.std.proofs.Common.{◌≡◌, inl, inr, refl, sym, ap, subst, ◌∙◌, ℕ, ◌+◌, ◌<◌, ◌≤◌, List, []}
+use Rattle.std.proofs.Common.{◌∷◌, ◌++◌, length, take, drop, arith, true, false, Bool, ◌==◌}
 use Rattle.std.proofs.Common.{add-zero, length-drop, length-append, nat_lt, ◌&&◌, if◌then◌else◌}
 use Rattle.std.proofs.lemmas.List.{append-nil, append_assoc, take-append-drop}
 use Rattle.std.proofs.lemmas.Grind.{flat_map-append}
-use Rattle.std.proofs.lemmas.Bool.{ltb-true, ltb-false, eq-eqb}
-use Rattle.std.proofs.lemmas.Bool.Decides.{eqb_tells}
+use Rattle.std.proofs.lemmas.Bool.{ltb-true, ltb-false, eq-eqb, Decides.eqb_tells}
 use Rattle.std.proofs.Math.Seq.{take-append_seam, take-add, drop-nil}
 use Rattle.links.specs.declared.stages.LinkStage.{LinkStage}
-use Rattle.links.specs.declared.stages.LinkStage.TheVariants as stage
 use Rattle.links.specs.Links.{LinkState, first_of, has_room, has_some, frames_on, pending}
 use Rattle.links.specs.Links.{is_sending, part_sent, whole_sent, after_sent}
-use Rattle.links.specs.Histories.{Full, Unreachable, NoMemory, SentOn}
-use Rattle.links.specs.Histories.{Told, sent_on, History}
-use Rattle.links.specs.Histories.{Then, Sent, written, connections}
+use Rattle.links.specs.Histories.{Full, Unreachable, NoMemory, SentOn, Told, sent_on, History, Then}
+use Rattle.links.specs.Histories.{Sent, written, connections}
 use Rattle.links.proofs.Fates.{settle_first, frames_first, waiting_first}
-use Rattle.links.proofs.Orders.{order_first, last_first}
-use Rattle.links.proofs.Cuts.{cut_first, count_first}
-use Rattle.links.proofs.Keeping.{Holds, Past, Now, front_of, joined, SameTold}
-use Rattle.links.proofs.Keeping.{as_next, rest_as}
+use Rattle.links.proofs.{Orders.order_first, Orders.last_first, Cuts.cut_first, Cuts.count_first}
+use Rattle.links.proofs.Keeping.{Holds, Past, Now, front_of, joined, SameTold, as_next, rest_as}
+use Rattle.links.specs.declared.stages.LinkStage.TheVariants as stage
 
 -- ---- what was written
 
@@ -69,18 +64,14 @@ sent_told h now bytes none = record {
 -- ---- on an open connection
 
 room_frames : (at : LinkStage) → has_room at ≡ true → nat_lt (frames_on at) 63 ≡ true
-room_frames stage.Closed room = cc
-room_frames (stage.Paused since millis) room = cc
-room_frames (stage.Opening since) room = cc
 room_frames (stage.Open frames quiet) room = room
+room_frames _ room = cc
 
 now_open : (at : LinkStage) (n : ℕ) (bytes front : List ℕ) (ts : List Told) → has_room at ≡ true
     → Now at n bytes front ts
     → (bytes ≡ joined (sent_on n ts) ++ front) × (length (sent_on n ts) ≡ frames_on at)
-now_open stage.Closed n bytes front ts room h = cc
-now_open (stage.Paused since millis) n bytes front ts room h = cc
-now_open (stage.Opening since) n bytes front ts room h = cc
 now_open (stage.Open frames quiet) n bytes front ts room h = h
+now_open _ n bytes front ts room h = cc
 
 taken_more : (b : ℕ) (f bytes rest : List ℕ) → drop b f ≡ bytes ++ rest
     → take (b + length bytes) f ≡ take b f ++ bytes

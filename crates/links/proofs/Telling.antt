@@ -1,16 +1,14 @@
 -- The lines that are told of a desk are few.
-use Rattle.std.proofs.Common.{◌≡◌, refl, sym, subst, ◌∙◌, ℕ, ◌-◌, List, [], ◌∷◌, Bool}
-use Rattle.std.proofs.Common.{true, false, Option, None, Some, if◌then◌else◌, arith}
+use Rattle.std.proofs.Common.{◌≡◌, refl, sym, subst, ◌∙◌, ℕ, ◌-◌, List, [], ◌∷◌, Bool, true, false}
+use Rattle.std.proofs.Common.{Option, None, Some, if◌then◌else◌, arith}
 use Rattle.std.proofs.lemmas.Bool.{leb-true}
-use Rattle.links.specs.declared.notices.Notice.TheVariants as notice
-use Rattle.links.specs.declared.notices.Outage.{Outage}
-use Rattle.links.specs.declared.notices.Outage.TheVariants as outage
-use Rattle.links.specs.Outages.{Telling, failing, reaching, failed_in, reached_in}
-use Rattle.links.specs.Outages.{is_free, due_line, after_due, all_told, line_of, told, last_of}
-use Rattle.links.specs.Outages.{foreign_line, with_outage}
+use Rattle.links.specs.{declared.notices.Outage.Outage, Outages.with_outage, Tellings.LinesAreFew}
+use Rattle.links.specs.Outages.{Telling, failing, reaching, failed_in, reached_in, is_free}
+use Rattle.links.specs.Outages.{due_line, after_due, all_told, line_of, told, last_of, foreign_line}
 use Rattle.links.specs.Tellings.{Call, Failed, Reached, Asked, Foreign, Calls, Tale, Silent, Goes}
-use Rattle.links.specs.Tellings.{LeadsTo, Line, with_line, lines_of, IsAfter, are_down}
-use Rattle.links.specs.Tellings.{AreFew, LinesAreFew}
+use Rattle.links.specs.Tellings.{LeadsTo, Line, with_line, lines_of, IsAfter, are_down, AreFew}
+use Rattle.links.specs.declared.notices.Notice.TheVariants as notice
+use Rattle.links.specs.declared.notices.Outage.TheVariants as outage
 
 -- whether it was told that the desk can't be reached
 abbrev is_told : Outage → Bool
@@ -81,15 +79,11 @@ foreign_if false n ls now free a = a
 
 failed_told : (o : Outage) (now : ℕ) → is_told (failed_in o now) ≡ is_told o
 failed_told outage.Reachable now = refl
-failed_told (outage.Untold since) now = refl
-failed_told (outage.Told since) now = refl
-failed_told (outage.Back since until) now = refl
+failed_told _ now = refl
 
 reached_told : (o : Outage) (now : ℕ) → is_told (reached_in o now) ≡ is_told o
 reached_told outage.Reachable now = refl
-reached_told (outage.Untold since) now = refl
-reached_told (outage.Told since) now = refl
-reached_told (outage.Back since until) now = refl
+reached_told _ now = refl
 
 in_outage : (n : Telling) (o : Outage) (ls : List Line) → is_told o ≡ is_told n.outage → Tells n ls
     → Tells (with_outage n o) ls

@@ -1,12 +1,10 @@
 -- How soon a desk that comes back is reached.
-use Rattle.std.proofs.Common.{◌≡◌, ap, subst, ◌∙◌, ℕ, ◌+◌, ◌-◌, ◌≤◌, true, arith}
-use Rattle.std.proofs.Common.{if◌then◌else◌}
+use Rattle.std.proofs.Common.{◌≡◌, ap, subst, ◌∙◌, ℕ, ◌+◌, ◌-◌, ◌≤◌, true, arith, if◌then◌else◌}
 use Rattle.std.proofs.lemmas.Bool.{le-leb}
+use Rattle.links.specs.Links.{has_some, wish_at, pause_in, is_over}
+use Rattle.links.{specs.Reaching.LinksTryAgain, proofs.Kept.all_hold}
 use Rattle.links.specs.declared.stages.LinkStage.TheVariants as stage
 use Rattle.links.specs.declared.stages.LinkAction.TheVariants as wish
-use Rattle.links.specs.Links.{has_some, wish_at, pause_in, is_over}
-use Rattle.links.specs.Reaching.{LinksTryAgain}
-use Rattle.links.proofs.Kept.{all_hold}
 
 -- a second is as long as any pause
 over_after : (now since millis : ℕ) → millis ≤ 1000 → since + 1000 ≤ now

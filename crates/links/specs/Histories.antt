@@ -1,13 +1,11 @@
 -- What becomes of the frames that are pushed to a link, whatever calls are made (the project's
 -- own).
-use Rattle.std.specs.Prelude.{◌≡◌, ◌⊎◌, ℕ, ◌+◌, ◌<◌, ◌≤◌, List, [], ◌∷◌, ◌++◌, length}
-use Rattle.std.specs.Prelude.{◌==◌, if◌then◌else◌}
-use Rattle.std.specs.List.{flat_map}
-use Rattle.links.specs.declared.stages.PushOutcome.{PushOutcome}
-use Rattle.links.specs.declared.stages.PushOutcome.TheVariants as push
+use Rattle.std.specs.Prelude.{◌≡◌, ◌⊎◌, ℕ, ◌+◌, ◌<◌, ◌≤◌, List, [], ◌∷◌, ◌++◌, ◌==◌, if◌then◌else◌}
+use Rattle.std.specs.{Prelude.length, List.flat_map}
+use Rattle.links.specs.{declared.stages.PushOutcome.PushOutcome, Links.after_closed}
 use Rattle.links.specs.Links.{LinkState, IsUnconnected, new_link, pending, first_of, Pushes}
 use Rattle.links.specs.Links.{after_began, after_opened, after_sent, after_failed, after_ended}
-use Rattle.links.specs.Links.{after_closed}
+use Rattle.links.specs.declared.stages.PushOutcome.TheVariants as push
 
 -- a call: this frame was pushed, with this answer; opening a connection was begun, at this time; it
 -- is open; these bytes were written; it failed; the other side ended it; or this side closed it

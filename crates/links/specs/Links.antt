@@ -1,15 +1,13 @@
 -- A link: the frames that wait, what of the first was sent, and what the connection has come to
 -- (the project's own).
 use Rattle.std.specs.Prelude.{◌≡◌, ℕ, ◌+◌, ◌-◌, ◌*◌, ◌<◌, ◌≤◌, List, [], ◌∷◌, ◌++◌, length, drop}
-use Rattle.std.specs.Prelude.{min}
-use Rattle.std.specs.Prelude.{remove, map, nat_lt, nat_le, Option, None, Some, Bool, true, false}
-use Rattle.std.specs.Prelude.{◌&&◌, ◌||◌, not, if◌then◌else◌}
+use Rattle.std.specs.Prelude.{min, remove, map, nat_lt, nat_le, Option, None, Some, Bool, true}
+use Rattle.std.specs.Prelude.{false, ◌&&◌, ◌||◌, not, if◌then◌else◌}
 use Rattle.std.specs.Global.{Vec}
-use Rattle.links.specs.declared.stages.LinkStage.{LinkStage}
+use Rattle.links.specs.declared.stages.{LinkStage.LinkStage, LinkAction.LinkAction}
 use Rattle.links.specs.declared.stages.LinkStage.TheVariants.{Closed, Paused, Opening, Open}
-use Rattle.links.specs.declared.stages.LinkAction.{LinkAction}
-use Rattle.links.specs.declared.stages.LinkAction.TheVariants as wish
 use Rattle.links.specs.declared.stages.PushOutcome.{PushOutcome}
+use Rattle.links.specs.declared.stages.LinkAction.TheVariants as wish
 use Rattle.links.specs.declared.stages.PushOutcome.TheVariants as push
 
 -- a link between two calls

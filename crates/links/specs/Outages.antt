@@ -1,9 +1,7 @@
 -- What is said of another desk, and when (the project's own).
-use Rattle.std.specs.Prelude.{ℕ, ◌-◌, ◌/◌, nat_le, Option, None, Some, Bool, true}
-use Rattle.std.specs.Prelude.{if◌then◌else◌}
-use Rattle.links.specs.declared.notices.Notice.{Notice}
+use Rattle.std.specs.Prelude.{ℕ, ◌-◌, ◌/◌, nat_le, Option, None, Some, Bool, true, if◌then◌else◌}
+use Rattle.links.specs.declared.notices.{Notice.Notice, Outage.Outage}
 use Rattle.links.specs.declared.notices.Notice.TheVariants as notice
-use Rattle.links.specs.declared.notices.Outage.{Outage}
 use Rattle.links.specs.declared.notices.Outage.TheVariants as outage
 
 -- when the last line was told, and what is known of the desk

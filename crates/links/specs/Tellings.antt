@@ -1,10 +1,9 @@
 -- The lines that are written about a desk, whatever calls are made (the project's own).
 use Rattle.std.specs.Prelude.{◌≡◌, ℕ, ◌+◌, ◌≤◌, List, [], ◌∷◌, Bool, true, false, Option, None}
 use Rattle.std.specs.Prelude.{Some}
-use Rattle.links.specs.declared.notices.Notice.{Notice}
-use Rattle.links.specs.declared.notices.Notice.TheVariants as notice
+use Rattle.links.specs.{declared.notices.Notice.Notice, Outages.foreign_line, Outages.after_foreign}
 use Rattle.links.specs.Outages.{Telling, new_telling, failing, reaching, due_line, after_due}
-use Rattle.links.specs.Outages.{foreign_line, after_foreign}
+use Rattle.links.specs.declared.notices.Notice.TheVariants as notice
 
 -- a call, at this time, and the line that it said to be due: a connection failed, or was opened; it
 -- was asked what is due; or what answered was no desk of the hall

@@ -1,7 +1,6 @@
 //! What follows of a link's calls, whatever calls are made.
 
-ghost use Rattle.links.specs.Histories.{FramesAreKept};
-ghost use Rattle.links.specs.Tellings.{LinesAreFew};
+ghost use Rattle.links.specs.{Histories.FramesAreKept, Tellings.LinesAreFew};
 ghost use Rattle.links.specs.Reaching.{LinksTryAgain};
 
 /// However a link is called, each frame that was pushed was sent whole, once, on one connection, or

@@ -1,13 +1,12 @@
 //! The link to one other desk.
 
 ghost use Rattle.std.specs.Prelude.{◌≡◌, ◌≢◌, ◌<◌, ◌≤◌, length, nat_le, remove, IfSome, Some};
-ghost use Rattle.std.specs.Bool.{OnTrue, OnFalse};
-ghost use Rattle.std.specs.VecDeque.{deque_len, deque_capacity};
-ghost use Rattle.links.specs.declared.stages.LinkAction.TheVariants as wish;
+ghost use Rattle.std.specs.{Bool.OnTrue, Bool.OnFalse, VecDeque.deque_len, VecDeque.deque_capacity};
 ghost use Rattle.links.specs.Links.{IsUnconnected, new_link, pending, wish_of, wait_of, Pushes};
 ghost use Rattle.links.specs.Links.{after_began, after_opened, after_sent, after_failed};
 ghost use Rattle.links.specs.Links.{after_ended, after_closed, has_room, frames_on, spent_at};
 ghost use Rattle.links.specs.Links.{is_over, left_of, wish_at, wait_at, has_some, oldest_at};
+ghost use Rattle.links.specs.declared.stages.LinkAction.TheVariants as wish;
 
 use crate::stages::{LinkAction, LinkStage, PushOutcome};
 use std::alloc::Global;

@@ -1,6 +1,6 @@
 //! Which lines about another desk are due, so that what lasts for hours isn't said each second.
 
-ghost use Rattle.std.specs.Prelude.{◌≡◌, None, IsTrue, IsSome, OnSome, IfNone, Some};
+ghost use Rattle.std.specs.Prelude.{◌≡◌, None, Some};
 ghost use Rattle.links.specs.Outages.{is_free, told, line_of, failed_in, reached_in, new_telling};
 ghost use Rattle.links.specs.Outages.{after_due, due_line, failing, reaching, after_foreign};
 ghost use Rattle.links.specs.Outages.{foreign_line};

@@ -1,6 +1,7 @@
 pub mod Choices
 pub mod Turns
+pub mod Lines
 pub mod Telling
 pub mod Kept
-pub mod Waiting
 pub mod Outcomes
+pub mod Waiting

@@ -1,179 +1,166 @@
 -- The laws of followers.
-use Rattle.std.proofs.Common.{◌≡◌, refl, sym, ap, subst, ◌∙◌, ℕ, ◌+◌, ◌-◌, ◌≤◌, ◌<◌, suc, ◌∷◌}
-use Rattle.std.proofs.Common.{arith}
-use Rattle.std.proofs.Common.{Bool, true, false, Option, None, Some, if◌then◌else◌, inl, inr, ◌⊎◌}
+use Rattle.std.proofs.Common.{◌≡◌, sym, ap, ◌∙◌, ◌+◌, ◌-◌, ◌≤◌, ◌<◌, suc, ◌∷◌, Some, inl, inr, ◌⊎◌}
+use Rattle.std.proofs.Common.{refl, subst, ℕ, arith, Bool, true, false, Option, None, if◌then◌else◌}
 use Rattle.std.specs.Prelude.{◌&&◌, ◌||◌, nat_lt, max, not}
 use Rattle.std.proofs.lemmas.Bool.{le-leb, leb-true}
 use Rattle.mirror.specs.declared.mirror.MirrorGrowth.{MirrorGrowth}
 use Rattle.mirror.specs.declared.mirror.MirrorGrowth.TheVariants.{Grew, Known, Gap, Differs}
-use Rattle.log_follower.specs.declared.stages.FollowStage.{FollowStage}
-use Rattle.log_follower.specs.declared.stages.FollowStage.TheVariants as stage
-use Rattle.log_follower.specs.declared.stages.FollowAction.{FollowAction}
-use Rattle.log_follower.specs.declared.stages.FollowAction.TheVariants.{Rest, Open, Ask, Close, Stop}
-use Rattle.log_follower.specs.Following.{Following, action_of, begun, is_stopped}
-use Rattle.log_follower.specs.Following.{is_connected, is_silent, is_useless, is_behind_for, is_over}
-use Rattle.log_follower.specs.Following.{is_to_be_left, may_open, may_ask, is_behind, behind_after}
-use Rattle.log_follower.specs.Following.{next_desk, told_at, after_answer, last_of}
-use Rattle.log_follower.specs.Following.{opened_stage, hurried_stage}
-use Rattle.log_follower.specs.Histories.{Call, Acted, Opened, Answered, Lost, Hurried, Calls}
-use Rattle.log_follower.specs.Histories.{History, Start, Then, Leads, is_other, differed, latest}
-use Rattle.log_follower.specs.Histories.{last_question, last_try, openings, longest, unanswered}
-use Rattle.log_follower.specs.Histories.{is_full, is_useful, rests, rests_after, time_after}
-use Rattle.log_follower.specs.Histories.{tried_after, tried_in_vain}
-use Rattle.log_follower.specs.Laws.{IsAfter, IsPaced, QuestionsArePaced, FullAnswersGoOn}
-use Rattle.log_follower.specs.Laws.{AsksWhereItEnds, IsLeft, SilentDesksAreLeft, BehindDesksAreLeft}
-use Rattle.log_follower.specs.Laws.{NoneIsForgotten, StopsForGood, AreInTurn, HurriesNeedAnswers}
-use Rattle.log_follower.proofs.Choices.{chosen, asked_in, opening_in, fresh_in, opens_from}
-use Rattle.log_follower.proofs.Choices.{asks_from, OnNew}
-use Rattle.log_follower.proofs.Choices.{OnKept}
-use Rattle.log_follower.proofs.Turns.{turn_holds, each_is_among}
-use Rattle.log_follower.proofs.Telling.{Tells, up_to_after, after_later}
-use Rattle.log_follower.proofs.Kept.{all_tell}
-use Rattle.log_follower.proofs.Waiting.{IsBy, IsTimedBy, all_timed}
+use Rattle.desk_talks.specs.KeptConnections.{closed, due_at, due_of, is_closed, is_over, is_used_up}
+use Rattle.desk_talks.specs.KeptConnections.{last_of}
+use Rattle.desk_talks.specs.declared.kept_connection.ConnectionStage.{ConnectionStage}
+use Rattle.log_follower.specs.declared.stages.{AnswerWorth.AnswerWorth, FollowAction.FollowAction}
+use Rattle.log_follower.specs.declared.stages.FollowAction.TheVariants.{Open, Ask, Close, Stop}
+use Rattle.log_follower.specs.Following.{Following, after_answer, begun, behind_after, due_for}
+use Rattle.log_follower.specs.Following.{goes_on, line_begun, is_behind, is_behind_for, is_stopped}
+use Rattle.log_follower.specs.Following.{is_to_be_left, is_useless, turned, worth_of}
+use Rattle.log_follower.specs.Histories.{Acted, Answered, Asked, Call, Calls, Followed, History}
+use Rattle.log_follower.specs.Histories.{Hurried, Leads, Lost, Moved, Opened, Start, Then, IsTimed}
+use Rattle.log_follower.specs.Histories.{action_at, differed, followed, is_other, is_useful}
+use Rattle.log_follower.specs.Histories.{last_question, last_try, latest, openings, behind_since}
+use Rattle.log_follower.specs.Histories.{longest, rests, tried_in_vain}
+use Rattle.log_follower.specs.Laws.{AreInTurn, FullAnswersGoOn, NoneIsForgotten, QuestionsArePaced}
+use Rattle.log_follower.specs.Laws.{BehindDesksAreLeft, HurriesNeedAnswers, SilentDesksAreLeft}
+use Rattle.log_follower.specs.Laws.{GoesOn, IsAfter, IsLeft, IsPaced, IsReached, StopsForGood}
+use Rattle.log_follower.proofs.Choices.{asked_in, chosen, done_by, free_after, fresh_in, is_of_use}
+use Rattle.log_follower.proofs.{Choices.opening_in, Turns.IsTurn, Turns.each_is_among}
+use Rattle.log_follower.proofs.Telling.{IsBy, after_later, times_of, up_to_after}
+use Rattle.log_follower.proofs.Kept.{all_know, all_tell, answered_call}
+use Rattle.desk_talks.specs.declared.kept_connection.DueAction.TheVariants as due
+use Rattle.desk_talks.specs.declared.kept_connection.ConnectionStage.TheVariants as stage
+use Rattle.log_follower.specs.declared.stages.AnswerWorth.TheVariants as worth
 
 -- ---- the end
 
-bool_cases : (b : Bool) → (b ≡ true) ⊎ (b ≡ false)
+pub bool_cases : (b : Bool) → (b ≡ true) ⊎ (b ≡ false)
 bool_cases true = inl refl
 bool_cases false = inr refl
 
-stopped_acts : (s : Following) (now : ℕ) → s.stage ≡ stage.Stopped → action_of s now ≡ Stop
+stopped_acts : (s : Followed) (now : ℕ) → is_stopped s.follower.worth ≡ true
+    → action_at s now ≡ Stop
 stopped_acts s now at =
-    ap (λ z. if is_stopped z then Stop else (
-    if is_to_be_left s now then Close s.desk else (
-    if may_open s.stage now then Open s.desk else (
-    if may_ask s.stage now then Ask s.desk s.held else Rest
-    )
-    )
+    ap (λ z. if z then Stop else (
+    if is_to_be_left s.follower s.line now then Close s.follower.desk
+    else due_for (due_of s.line now) s.follower.desk
     )) at
 
-after_stopped : (c : Call) (m s : Following) → m.stage ≡ stage.Stopped → Calls c m s
-    → s.stage ≡ stage.Stopped
-after_stopped (Acted now done) m s at k =
-    ap (λ (z : Following). z.stage) k.1
-    ∙ ap (λ z. (begun z m now).stage) (stopped_acts m now at) ∙ at
-after_stopped Opened m s at k =
-    ap (λ (z : Following). z.stage) k ∙ ap opened_stage at
-after_stopped (Answered now None held length) m s at k =
-    ap (λ (z : Following). z.stage) k ∙ ap (λ z. (told_at z m now None held length).stage) at ∙ at
-after_stopped (Answered now (Some Grew) held length) m s at k =
-    ap (λ (z : Following). z.stage) k
-    ∙ ap (λ z. (told_at z m now (Some Grew) held length).stage) at ∙ at
-after_stopped (Answered now (Some Known) held length) m s at k =
-    ap (λ (z : Following). z.stage) k
-    ∙ ap (λ z. (told_at z m now (Some Known) held length).stage) at ∙ at
-after_stopped (Answered now (Some Gap) held length) m s at k =
-    ap (λ (z : Following). z.stage) k
-    ∙ ap (λ z. (told_at z m now (Some Gap) held length).stage) at ∙ at
-after_stopped (Answered now (Some (Differs position)) held length) m s at k =
-    ap (λ (z : Following). z.stage) k
-after_stopped Lost m s at k =
-    ap (λ (z : Following). z.stage) k
-    ∙ ap (λ z. (if is_connected z then next_desk m else m).stage) at ∙ at
-after_stopped Hurried m s at k =
-    ap (λ (z : Following). z.stage) k ∙ ap hurried_stage at
+lost_stopped : (apart : Bool) (s : Followed) → is_stopped s.follower.worth ≡ true
+    → is_stopped (if apart then s else followed (turned s.follower) (closed s.line)).follower.worth
+    ≡ true
+lost_stopped true s at = at
+lost_stopped false s at = at
+
+after_stopped : (c : Call) (m s : Followed) → is_stopped m.follower.worth ≡ true → Calls c m s
+    → is_stopped s.follower.worth ≡ true
+after_stopped (Acted now done) m s at (is, after) =
+    ap (λ (z : Followed). is_stopped z.follower.worth) after
+    ∙ ap (λ z. is_stopped (begun z m.follower).worth) (stopped_acts m now at) ∙ at
+after_stopped (Asked now question) m s at k =
+    ap (λ (z : Followed). is_stopped z.follower.worth) k.after
+    ∙ ap (λ z. is_stopped (begun z m.follower).worth) (stopped_acts m now at) ∙ at
+after_stopped Opened m s at (l, opens, after) =
+    ap (λ (z : Followed). is_stopped z.follower.worth) after ∙ at
+after_stopped Moved m s at (l, moves, after) =
+    ap (λ (z : Followed). is_stopped z.follower.worth) after ∙ at
+after_stopped (Answered now taken held length) m s at k =
+    ap (λ (z : Followed). is_stopped z.follower.worth) k.after
+    ∙ ap (λ z. is_stopped (if z then worth.Differs else worth_of taken held length)) at
+after_stopped Lost m s at is =
+    ap (λ (z : Followed). is_stopped z.follower.worth) is
+    ∙ lost_stopped (is_closed m.line.stage) m at
+after_stopped Hurried m s at is = ap (λ (z : Followed). is_stopped z.follower.worth) is ∙ at
 
 either : (a b : Bool) → (a || b) ≡ true → (a ≡ true) ⊎ (b ≡ true)
 either true b e = inl refl
 either false b e = inr e
 
-other_stops : (taken : Option MirrorGrowth) (m s : Following) (now held length : ℕ)
-    → is_other taken ≡ true → s ≡ after_answer m now taken held length → s.stage ≡ stage.Stopped
-other_stops None m s now held length e k = absurd (let bad : false ≡ true = e in cc)
-other_stops (Some Grew) m s now held length e k = absurd (let bad : false ≡ true = e in cc)
-other_stops (Some Known) m s now held length e k = absurd (let bad : false ≡ true = e in cc)
-other_stops (Some Gap) m s now held length e k = absurd (let bad : false ≡ true = e in cc)
-other_stops (Some (Differs position)) m s now held length e k = ap (λ (z : Following). z.stage) k
+if_stops : (stopped : Bool) → is_stopped (if stopped then worth.Differs else worth.Differs) ≡ true
+if_stops true = refl
+if_stops false = refl
 
-stops_at : (c : Call) (h : History) (m s : Following) → Calls c m s
-    → differed (Then h c) ≡ true → (differed h ≡ true → m.stage ≡ stage.Stopped)
-    → s.stage ≡ stage.Stopped
-stops_at (Acted now done) h m s k e before = after_stopped (Acted now done) m s (before e) k
-stops_at Opened h m s k e before = after_stopped Opened m s (before e) k
+other_stops : (taken : Option MirrorGrowth) (m : Following) (now held length : ℕ)
+    → is_other taken ≡ true → is_stopped (after_answer m now taken held length).worth ≡ true
+other_stops (Some (Differs position)) m now held length e = if_stops (is_stopped m.worth)
+other_stops _ m now held length e = absurd (let bad : false ≡ true = e in cc)
+
+stops_at : (c : Call) (h : History) (m s : Followed) → Calls c m s
+    → differed (Then h c) ≡ true → (differed h ≡ true → is_stopped m.follower.worth ≡ true)
+    → is_stopped s.follower.worth ≡ true
 stops_at (Answered now taken held length) h m s k e before =
     elim (either (is_other taken) (differed h) e) [
-      | inl other ↦ other_stops taken m s now held length other k
+      | inl other ↦
+          ap (λ (z : Followed). is_stopped z.follower.worth) k.after
+          ∙ other_stops taken m.follower now held length other
       | inr earlier ↦ after_stopped (Answered now taken held length) m s (before earlier) k
     ]
-stops_at Lost h m s k e before = after_stopped Lost m s (before e) k
-stops_at Hurried h m s k e before = after_stopped Hurried m s (before e) k
+stops_at c h m s k e before = after_stopped c m s (before e) k
 
-all_stop : (desks first : ℕ) (h : History) (s : Following) → Leads desks first h s
-    → differed h ≡ true → s.stage ≡ stage.Stopped
-all_stop desks first Start s leads e = absurd (let bad : false ≡ true = e in cc)
-all_stop desks first (Then h c) s leads e =
-    stops_at c h leads.0 s leads.2 e (all_stop desks first h leads.0 leads.1)
+pub all_stop : (desks : ℕ) (h : History) (s : Followed) → Leads desks h s → differed h ≡ true
+    → is_stopped s.follower.worth ≡ true
+all_stop desks Start s leads e = absurd (let bad : false ≡ true = e in cc)
+all_stop desks (Then h c) s (m, leads, calls) e =
+    stops_at c h m s calls e (all_stop desks h m leads)
 
-only_other : (desks first : ℕ) (h : History) (s : Following) (now : ℕ) → Leads desks first h s
-    → action_of s now ≡ Stop → differed h ≡ true
-only_other desks first h s now leads is =
+only_other : (desks : ℕ) (h : History) (s : Followed) (now : ℕ) → Leads desks h s
+    → action_at s now ≡ Stop → differed h ≡ true
+only_other desks h s now leads is =
     elim (bool_cases (differed h)) [
       | inl e ↦ e
       | inr e ↦
-          let runs = (all_tell desks first h s leads e).runs in
-          let why = chosen Stop s now (sym is) in
+          let runs = (all_tell desks h s leads e).runs in
+          let why = chosen Stop s.follower s.line now (sym is) in
           absurd (let bad : true ≡ false = sym why ∙ runs in cc)
     ]
 
 pub stops_for_good : StopsForGood
-stops_for_good desks first h s now leads = (
-  only_other desks first h s now leads,
-  λ e. stopped_acts s now (all_stop desks first h s leads e),
-)
+stops_for_good desks h s now leads =
+    (only_other desks h s now leads, λ e. stopped_acts s now (all_stop desks h s leads e))
 
 -- what is done is no stop
-runs_at : (desks first : ℕ) (h : History) (s : Following) (now : ℕ) → Leads desks first h s
-    → is_stopped s.stage ≡ false → differed h ≡ false
-runs_at desks first h s now leads runs =
+runs_at : (desks : ℕ) (h : History) (s : Followed) → Leads desks h s
+    → is_stopped s.follower.worth ≡ false → differed h ≡ false
+runs_at desks h s leads runs =
     elim (bool_cases (differed h)) [
       | inl e ↦
-          let at = all_stop desks first h s leads e in
-          absurd (let bad : false ≡ true = sym runs ∙ ap is_stopped at in cc)
+          let at = all_stop desks h s leads e in
+          absurd (let bad : false ≡ true = sym runs ∙ at in cc)
       | inr e ↦ e
     ]
 
 -- ---- questions
 
-pub asks_where_it_ends : AsksWhereItEnds
-asks_where_it_ends desks first h s now desk position leads is =
-    let why = chosen (Ask desk position) s now (sym is) in
-    why.5 ∙ (all_tell desks first h s leads (runs_at desks first h s now leads why.0)).held
+opening_paced : (desks : ℕ) (h : History) (s : Followed) (now d : ℕ) → Leads desks h s
+    → Open d ≡ action_at s now → IsAfter (last_try h) now
+opening_paced desks h s now d leads is =
+    let (runs, at_desk, (last, at, free)) = chosen (Open d) s.follower s.line now is in
+    let t = all_tell desks h s leads (runs_at desks h s leads runs) in
+    subst (λ z. IsAfter z now) (sym (ap last_of at) ∙ t.last) (free_after last now free)
 
-asked_paced : (desks first : ℕ) (h : History) (s : Following) (now : ℕ) → Tells desks first h s
-    → (since : ℕ) → last_of s.stage ≡ Some since → since ≤ now → fresh_in s.stage ≡ Some since
-    → IsAfter (last_question h) now
-asked_paced desks first h s now t since last before fresh =
-    after_later (last_question h) since now (t.fresh since fresh) before
-
-opening_paced : (desks first : ℕ) (h : History) (s : Following) (now d : ℕ)
-    → Leads desks first h s → Open d ≡ action_of s now → IsAfter (last_try h) now
-opening_paced desks first h s now d leads is =
-    let why = chosen (Open d) s now is in
-    let t = all_tell desks first h s leads (runs_at desks first h s now leads why.0) in
-    subst (λ z. IsAfter z now) t.last (opens_from s.stage now why.2).free
-
-paced : (done : FollowAction) (desks first : ℕ) (h : History) (s : Following) (now : ℕ)
-    → Leads desks first h s → IsTimedBy s (latest h) → latest h ≤ now → done ≡ action_of s now
-    → IsPaced done h now
-paced Rest desks first h s now leads times later is = tt
-paced (Open d) desks first h s now leads times later is =
-    opening_paced desks first h s now d leads is
-paced (Ask d p) desks first h s now leads times later is =
-    let why = chosen (Ask d p) s now is in
-    let t = all_tell desks first h s leads (runs_at desks first h s now leads why.0) in
-    elim (asks_from s.stage now why.3) [
-      | OnNew since fresh last ↦
-          let before : since ≤ latest h = subst (λ z. IsBy z (latest h)) last times.last in
-          asked_paced desks first h s now t since last (omega (arith, before, later)) fresh
-      | OnKept free ↦ up_to_after (last_question h) (last_of s.stage) now t.paced free
+asking_paced : (desks : ℕ) (h : History) (s : Followed) (now d : ℕ) → Leads desks h s
+    → IsTimed h → latest h ≤ now → Ask d ≡ action_at s now → IsAfter (last_question h) now
+asking_paced desks h s now d leads timed later is =
+    let why = chosen (Ask d) s.follower s.line now is in
+    let t = all_tell desks h s leads (runs_at desks h s leads why.0) in
+    elim (why.2) [
+      | inl new ↦
+          let at = new.1 in
+          let before : new.0 ≤ latest h =
+          subst (λ z. IsBy z (latest h)) (sym t.last ∙ ap last_of at) (times_of h timed).0 in
+          after_later (last_question h) new.0 now (t.fresh new.0 (ap fresh_in at))
+          (omega (arith, before, later))
+      | inr kept ↦
+          let at = kept.1 in
+          up_to_after (last_question h) (last_of s.line.stage) now t.paced
+          (subst (λ z. IsAfter (last_of z) now) (sym at) (free_after kept.0 now kept.2))
     ]
-paced (Close d) desks first h s now leads times later is = tt
-paced Stop desks first h s now leads times later is = tt
+
+paced : (done : FollowAction) (desks : ℕ) (h : History) (s : Followed) (now : ℕ)
+    → IsReached desks h s now → done ≡ action_at s now → IsPaced done h now
+paced (Open d) desks h s now r is = opening_paced desks h s now d r.leads is
+paced (Ask d) desks h s now r is = asking_paced desks h s now d r.leads r.timed r.later is
+paced _ desks h s now r is = tt
 
 pub questions_are_paced : QuestionsArePaced
-questions_are_paced desks first h s now r =
-    paced (action_of s now) desks first h s now r.leads (all_timed desks first h s r.leads r.timed)
-    r.later refl
+questions_are_paced desks h s now r = paced (action_at s now) desks h s now r refl
 
 -- ---- hurries
 
@@ -187,131 +174,104 @@ known_in_vain : (more : Bool) (tried last : Option ℕ) (since : ℕ)
 known_in_vain true tried last since k e = (refl, k e)
 known_in_vain false tried last since k e = absurd (let bad : None ≡ Some since = e in cc)
 
-answered_in_vain : (asked : Option ℕ) (taken : Option MirrorGrowth) (held length : ℕ)
-    (rested : Bool)
-    (tried last : Option ℕ) (since : ℕ) → (tried ≡ Some since → IsInVain rested last since)
-    → tried_after asked (is_useful taken held length) tried ≡ Some since
-    → IsInVain (rests_after asked (is_useful taken held length) rested)
-    (time_after asked (is_full taken held length) last) since
-answered_in_vain None taken held length rested tried last since k e = k e
-answered_in_vain (Some at) None held length rested tried last since k e =
+answered_in_vain : (taken : Option MirrorGrowth) (held length : ℕ) (tried last : Option ℕ)
+    (since : ℕ) → (tried ≡ Some since → last ≡ Some since)
+    → (if is_useful taken held length then None else tried) ≡ Some since
+    → IsInVain (is_useful taken held length) (if goes_on taken held length then None else last)
+    since
+answered_in_vain (Some Known) held length tried last since k e =
+    known_in_vain (nat_lt held length) tried last since k e
+answered_in_vain (Some Gap) held length tried last since k e = (refl, k e)
+answered_in_vain (Some (Differs position)) held length tried last since k e = (refl, k e)
+answered_in_vain _ held length tried last since k e =
     absurd (let bad : None ≡ Some since = e in cc)
-answered_in_vain (Some at) (Some Grew) held length rested tried last since k e =
-    absurd (let bad : None ≡ Some since = e in cc)
-answered_in_vain (Some at) (Some Known) held length rested tried last since k e =
-    known_in_vain (nat_lt held length) tried last since (λ z. (k z).1) e
-answered_in_vain (Some at) (Some Gap) held length rested tried last since k e = (refl, (k e).1)
-answered_in_vain (Some at) (Some (Differs position)) held length rested tried last since k e =
-    (refl, (k e).1)
 
 in_vain : (h : History) (since : ℕ) → tried_in_vain h ≡ Some since
     → IsInVain (rests h) (last_try h) since
 in_vain Start since e = absurd (let bad : None ≡ Some since = e in cc)
-in_vain (Then h (Acted now Rest)) since e = in_vain h since e
 in_vain (Then h (Acted now (Open d))) since e = (refl, e)
-in_vain (Then h (Acted now (Ask d p))) since e = (refl, e)
-in_vain (Then h (Acted now (Close d))) since e = in_vain h since e
-in_vain (Then h (Acted now Stop)) since e = in_vain h since e
-in_vain (Then h Opened) since e = in_vain h since e
+in_vain (Then h (Acted now (Ask d))) since e = (refl, (in_vain h since e).1)
+in_vain (Then h (Asked now question)) since e = (refl, e)
 in_vain (Then h (Answered now taken held length)) since e =
-    answered_in_vain (unanswered h) taken held length (rests h) (tried_in_vain h) (last_try h) since
-    (in_vain h since) e
-in_vain (Then h Lost) since e = in_vain h since e
+    answered_in_vain taken held length (tried_in_vain h) (last_try h) since
+    (λ z. (in_vain h since z).1) e
 in_vain (Then h Hurried) since e =
     let k = in_vain h since e in
     (k.0, ap (λ z. if z then None else last_try h) k.0 ∙ k.1)
+in_vain (Then h _) since e = in_vain h since e
 
 pub hurries_need_answers : HurriesNeedAnswers
-hurries_need_answers desks first h s now since desk leads vain is =
+hurries_need_answers desks h s now since desk leads vain is =
     subst (λ z. IsAfter z now) (in_vain h since vain).1
-    (opening_paced desks first h s now desk leads (sym is))
+    (opening_paced desks h s now desk leads (sym is))
 
 -- ---- desks that are left
 
-asked_stage : (st : FollowStage) (since : ℕ) → asked_in st ≡ Some since → st ≡ stage.Asked since
-asked_stage (stage.Closed last) since e = absurd (let bad : None ≡ Some since = e in cc)
-asked_stage (stage.Ended last) since e = absurd (let bad : None ≡ Some since = e in cc)
-asked_stage (stage.Opening at) since e = absurd (let bad : None ≡ Some since = e in cc)
-asked_stage (stage.Opened at) since e = absurd (let bad : None ≡ Some since = e in cc)
+asked_stage : (st : ConnectionStage) (since : ℕ) → asked_in st ≡ Some since → st ≡ stage.Asked since
 asked_stage (stage.Asked at) since e = cc
-asked_stage (stage.Answered last) since e = absurd (let bad : None ≡ Some since = e in cc)
-asked_stage (stage.Useless last) since e = absurd (let bad : None ≡ Some since = e in cc)
-asked_stage stage.Stopped since e = absurd (let bad : None ≡ Some since = e in cc)
+asked_stage _ since e = absurd (let bad : None ≡ Some since = e in cc)
 
-opening_stage : (st : FollowStage) (since : ℕ) → opening_in st ≡ Some since
+opening_stage : (st : ConnectionStage) (since : ℕ) → opening_in st ≡ Some since
     → st ≡ stage.Opening since
-opening_stage (stage.Closed last) since e = absurd (let bad : None ≡ Some since = e in cc)
-opening_stage (stage.Ended last) since e = absurd (let bad : None ≡ Some since = e in cc)
 opening_stage (stage.Opening at) since e = cc
-opening_stage (stage.Opened at) since e = absurd (let bad : None ≡ Some since = e in cc)
-opening_stage (stage.Asked at) since e = absurd (let bad : None ≡ Some since = e in cc)
-opening_stage (stage.Answered last) since e = absurd (let bad : None ≡ Some since = e in cc)
-opening_stage (stage.Useless last) since e = absurd (let bad : None ≡ Some since = e in cc)
-opening_stage stage.Stopped since e = absurd (let bad : None ≡ Some since = e in cc)
+opening_stage _ since e = absurd (let bad : None ≡ Some since = e in cc)
 
 over_after : (now since millis : ℕ) → 0 < millis → since + millis ≤ now
     → is_over now since millis ≡ true
 over_after now since millis some late = le-leb millis (now - since) (omega (arith, late))
 
-closes : (stops leaves : Bool) (desk : ℕ) (other : FollowAction) → stops ≡ false → leaves ≡ true
+closes : (stops leaves : Bool) (desk : ℕ) (other : FollowAction) → stops ≡ false
+    → (leaves ≡ false → other ≡ Close desk)
     → (if stops then Stop else (if leaves then Close desk else other)) ≡ Close desk
 closes true leaves desk other e f = absurd (let bad : true ≡ false = e in cc)
 closes false true desk other e f = refl
-closes false false desk other e f = absurd (let bad : false ≡ true = f in cc)
+closes false false desk other e f = f refl
 
-leaves_now : (s : Following) (now : ℕ) → is_stopped s.stage ≡ false → is_to_be_left s now ≡ true
-    → IsLeft s now
+leaves_now : (s : Followed) (now : ℕ) → is_stopped s.follower.worth ≡ false
+    → (is_to_be_left s.follower s.line now ≡ false
+    → due_for (due_of s.line now) s.follower.desk ≡ Close s.follower.desk) → IsLeft s now
 leaves_now s now runs leaves =
-    let is : action_of s now ≡ Close s.desk =
-    closes (is_stopped s.stage) (is_to_be_left s now) s.desk _ runs leaves in
-    record { closes = is; next = ap (λ z. (begun z s now).desk) is }
+    let is : action_at s now ≡ Close s.follower.desk =
+    closes (is_stopped s.follower.worth) (is_to_be_left s.follower s.line now) s.follower.desk
+    (due_for (due_of s.line now) s.follower.desk) runs leaves in
+    record { closes = is; next = ap (λ z. (begun z s.follower).desk) is }
 
-or_true_second : (a b c : Bool) → b ≡ true → (a || b || c) ≡ true
-or_true_second true b c e = refl
-or_true_second false true c e = refl
-or_true_second false false c e = absurd (let bad : false ≡ true = e in cc)
-
-or_true_last : (a b c : Bool) → c ≡ true → (a || b || c) ≡ true
-or_true_last true b c e = refl
-or_true_last false true c e = refl
-or_true_last false false c e = e
-
-and_true : (a b : Bool) → a ≡ true → b ≡ true → (a && b) ≡ true
-and_true true b e f = f
-and_true false b e f = e
-
-silent_left : (s : Following) (now : ℕ) → is_stopped s.stage ≡ false
-    → is_connected s.stage ≡ true → is_silent s.stage now ≡ true → IsLeft s now
-silent_left s now runs connected silent =
-    leaves_now s now runs
-    (and_true (is_connected s.stage) _ connected
-    (or_true_second (is_useless s.stage) (is_silent s.stage now) (is_behind_for s.behind now)
-    silent))
+silent_left : (s : Followed) (now : ℕ) → is_stopped s.follower.worth ≡ false
+    → due_of s.line now ≡ due.Close → IsLeft s now
+silent_left s now runs is =
+    leaves_now s now runs (λ stays. ap (λ z. due_for z s.follower.desk) is)
 
 pub silent_desks_are_left : SilentDesksAreLeft
-silent_desks_are_left desks first h s now since leads same (inl opens) late =
-    let t = all_tell desks first h s leads same in
-    let at = opening_stage s.stage since (t.opening ∙ opens) in
-    silent_left s now t.runs (ap is_connected at)
-    (ap (λ z. is_silent z now) at ∙ over_after now since 2000 (omega arith) late)
-silent_desks_are_left desks first h s now since leads same (inr asked) late =
-    let t = all_tell desks first h s leads same in
-    let at = asked_stage s.stage since (t.asked ∙ asked) in
-    silent_left s now t.runs (ap is_connected at)
-    (ap (λ z. is_silent z now) at ∙ over_after now since 2000 (omega arith) late)
+silent_desks_are_left desks h s now since leads same (inl opens) late =
+    let t = all_tell desks h s leads same in
+    let at = opening_stage s.line.stage since (t.opening ∙ opens) in
+    silent_left s now t.runs (ap (λ z. due_at z (is_used_up s.line.asked) now) at
+    ∙ ap (λ z. if z then due.Close else due.Rest) (over_after now since 2000 (omega arith) late))
+silent_desks_are_left desks h s now since leads same (inr asked) late =
+    let t = all_tell desks h s leads same in
+    let at = asked_stage s.line.stage since (t.asked ∙ asked) in
+    silent_left s now t.runs (ap (λ z. due_at z (is_used_up s.line.asked) now) at
+    ∙ ap (λ z. if z then due.Close else due.Rest) (over_after now since 2000 (omega arith) late))
+
+behind_leaves : (apart useless behind : Bool) → apart ≡ false → behind ≡ true
+    → (not apart && (useless || behind)) ≡ true
+behind_leaves true useless behind e f = absurd (let bad : true ≡ false = e in cc)
+behind_leaves false true behind e f = refl
+behind_leaves false false behind e f = f
 
 pub behind_desks_are_left : BehindDesksAreLeft
-behind_desks_are_left desks first h s now since leads same behind late =
-    let t = all_tell desks first h s leads same in
-    let at : s.behind ≡ Some since = t.behind ∙ behind in
-    elim (bool_cases (is_connected s.stage)) [
-      | inl connected ↦
+behind_desks_are_left desks h s now since leads same behind late =
+    let t = all_tell desks h s leads same in
+    let at : s.follower.behind ≡ Some since = t.behind ∙ behind in
+    elim (bool_cases (is_closed s.line.stage)) [
+      | inl apart ↦ absurd (let bad : None ≡ Some since = sym (t.alone apart) ∙ at in cc)
+      | inr there ↦
+          let leaves : is_to_be_left s.follower s.line now ≡ true =
+          behind_leaves (is_closed s.line.stage) (is_useless s.follower.worth)
+          (is_behind_for s.follower.behind now) there
+          (ap (λ z. is_behind_for z now) at ∙ over_after now since 5000 (omega arith) late) in
           leaves_now s now t.runs
-          (and_true (is_connected s.stage) _ connected
-          (or_true_last (is_useless s.stage) (is_silent s.stage now) (is_behind_for s.behind now)
-          (ap (λ z. is_behind_for z now) at ∙ over_after now since 5000 (omega arith) late)))
-      | inr apart ↦
-          absurd (let bad : None ≡ Some since = sym (t.alone apart) ∙ at in cc)
+          (λ stays. absurd (let bad : true ≡ false = sym leaves ∙ stays in cc))
     ]
 
 -- ---- full answers
@@ -329,58 +289,62 @@ not_behind most held length longest more =
       | inr e ↦ e
     ]
 
--- what is to be done once a full answer came, by what the follower holds
-full_action : (desks desk held most now : ℕ) (more behind : Bool) (before : Option ℕ)
-    (since later : ℕ)
-    → more ≡ true → behind ≡ false
-    → action_of (record {
-      desks = desks;
-      desk = desk;
-      stage = if more then stage.Answered None else stage.Answered (Some since);
-      held = held;
-      most = most;
-      behind = behind_after behind before now;
-    }) later ≡ Ask desk held
-full_action desks desk held most now true false before since later e f = refl
-full_action desks desk held most now true true before since later e f =
-    absurd (let bad : true ≡ false = f in cc)
-full_action desks desk held most now false behind before since later e f =
-    absurd (let bad : false ≡ true = e in cc)
+done_is : (s : Followed) (now : ℕ) (st : ConnectionStage) (used_up : Bool) (behind : Option ℕ)
+    → is_stopped s.follower.worth ≡ false → is_useless s.follower.worth ≡ false
+    → s.follower.behind ≡ behind → s.line.stage ≡ st → is_used_up s.line.asked ≡ used_up
+    → action_at s now ≡ done_by false false st used_up s.follower.desk behind now
+done_is s now st used_up behind runs useful since at used =
+    let desk = s.follower.desk in
+    let useless = is_useless s.follower.worth in
+    let count = is_used_up s.line.asked in
+    ap (λ z. done_by z useless s.line.stage count desk s.follower.behind now) runs
+    ∙ (ap (λ z. done_by false z s.line.stage count desk s.follower.behind now) useful
+    ∙ (ap (λ z. done_by false false s.line.stage count desk z now) since
+    ∙ (ap (λ z. done_by false false z count desk behind now) at
+    ∙ ap (λ z. done_by false false st z desk behind now) used)))
+
+-- what is to be done over a connection on which the next question may come at once
+full_action : (s : Followed) (later : ℕ) (used_up : Bool) → is_stopped s.follower.worth ≡ false
+    → is_useless s.follower.worth ≡ false → s.follower.behind ≡ None
+    → s.line.stage ≡ stage.Answered None → is_used_up s.line.asked ≡ used_up
+    → GoesOn used_up s later
+full_action s later false runs useful behind at used =
+    done_is s later (stage.Answered None) false None runs useful behind at used
+full_action s later true runs useful behind at used =
+    let closes : action_at s later ≡ Close s.follower.desk =
+    done_is s later (stage.Answered None) true None runs useful behind at used in (
+      closes,
+      ap (λ z. action_at (followed (begun z s.follower) (line_begun z s.line later)) later) closes
+          ∙ done_is (followed (turned s.follower) (closed s.line)) later (stage.Closed None) false None
+          runs useful refl (ap (λ z. stage.Closed (last_of z)) at) refl,
+    )
+
+use_only : (w : AnswerWorth) → is_of_use w ≡ true → is_useless w ≡ false
+use_only worth.Useless e = absurd (let bad : false ≡ true = e in cc)
+use_only _ e = refl
 
 pub full_answers_go_on : FullAnswersGoOn
-full_answers_go_on desks first h s since now held length later leads same asked more long =
-    let t = all_tell desks first h s leads same in
-    let at = asked_stage s.stage since (t.asked ∙ asked) in
-    let most : s.most ≤ length = subst (λ z. z ≤ length) (sym t.most) long in
-    ap (λ z. action_of (told_at z s now (Some Grew) held length) later) at
-    ∙ full_action s.desks s.desk held (max s.most length) now (nat_lt held length)
-    (is_behind s.most held length) s.behind since later (lt_true held length more)
-    (not_behind s.most held length most more)
+full_answers_go_on desks h s now held length later (m, leads, calls) same more long =
+    let (since, at, (t, asking)) = answered_call desks now (Some Grew) held length h m s refl
+    (all_know desks h m leads same) calls in
+    full_action s later (is_used_up s.line.asked) t.runs (use_only s.follower.worth t.rests)
+    (t.behind
+    ∙ ap (λ z. behind_after z (behind_since h) now) (not_behind (longest h) held length long more))
+    (at ∙ ap (λ z. stage.Answered (if z then None else Some since)) (lt_true held length more)) refl
 
 -- ---- turns
 
-in_turn : (desks first : ℕ) (h : History) (s : Following) → Leads desks first h s
-    → AreInTurn desks (openings h)
-in_turn desks first Start s leads = tt
-in_turn desks first (Then h (Acted now Rest)) s leads = in_turn desks first h leads.0 leads.1
-in_turn desks first (Then h (Acted now (Open d))) s leads =
-    let why = chosen (Open d) leads.0 now leads.2.0 in
-    let same = runs_at desks first h leads.0 now leads.1 why.0 in
-    let t = all_tell desks first (Then h (Acted now (Open d))) s leads same in
-    turn_holds desks s.desk (is_connected s.stage) (d ∷ openings h) t.turn
-in_turn desks first (Then h (Acted now (Ask d p))) s leads =
-    in_turn desks first h leads.0 leads.1
-in_turn desks first (Then h (Acted now (Close d))) s leads =
-    in_turn desks first h leads.0 leads.1
-in_turn desks first (Then h (Acted now Stop)) s leads = in_turn desks first h leads.0 leads.1
-in_turn desks first (Then h Opened) s leads = in_turn desks first h leads.0 leads.1
-in_turn desks first (Then h (Answered now taken held length)) s leads =
-    in_turn desks first h leads.0 leads.1
-in_turn desks first (Then h Lost) s leads = in_turn desks first h leads.0 leads.1
-in_turn desks first (Then h Hurried) s leads = in_turn desks first h leads.0 leads.1
+in_turn : (desks : ℕ) (h : History) (s : Followed) → Leads desks h s → AreInTurn desks (openings h)
+in_turn desks Start s leads = tt
+in_turn desks (Then h (Acted now (Open d))) s (m, leads, calls) =
+    let (runs, is, (last, at, free)) = chosen (Open d) m.follower m.line now calls.0 in
+    let t = all_tell desks h m leads (runs_at desks h m leads runs) in
+    subst (λ z. AreInTurn desks (z ∷ openings h)) (sym is)
+    (subst (λ z. IsTurn desks m.follower.desk z (openings h)) (ap is_closed at) t.turn)
+in_turn desks (Then h _) s (m, leads, calls) = in_turn desks h m leads
 
 pub none_is_forgotten : NoneIsForgotten
-none_is_forgotten desks first h s place leads =
-    let turn = in_turn desks first h s leads in
+none_is_forgotten desks h s place leads =
+    let turn = in_turn desks h s leads in
     let some = place.last in
     (turn, each_is_among desks (openings h) some turn)

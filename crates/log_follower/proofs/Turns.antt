@@ -1,34 +1,27 @@
 -- Desks come in turn, and none is forgotten.
-use Rattle.std.proofs.Common.{◌≡◌, refl, sym, ap, subst, ◌∙◌, ℕ, zero, suc, ◌+◌, ◌-◌}
-use Rattle.std.proofs.Common.{◌≤◌, ◌<◌, List, [], ◌∷◌, length, take, get_or, Bool, true, false}
-use Rattle.std.proofs.Common.{arith}
+use Rattle.std.proofs.Common.{◌≡◌, refl, sym, ap, subst, ◌∙◌, ℕ, zero, suc, ◌+◌, ◌-◌, ◌≤◌, ◌<◌}
+use Rattle.std.proofs.Common.{List, [], ◌∷◌, length, take, get_or, Bool, true, false, arith}
 use Rattle.std.proofs.Common.{if◌then◌else◌, ◌⊎◌, inl, inr, ◌≢◌}
-use Rattle.std.specs.Prelude.{Contains}
-use Rattle.std.proofs.lemmas.Bool.Decides.{eqb_tells, leb_tells}
-use Rattle.std.proofs.lemmas.List.{length-take-le, get_or-take}
+use Rattle.std.{specs.Prelude.Contains, proofs.lemmas.List.get_or-take}
+use Rattle.std.proofs.lemmas.{Bool.Decides.eqb_tells, Bool.Decides.leb_tells, List.length-take-le}
 use Rattle.log_follower.specs.Following.{next_place}
 use Rattle.log_follower.specs.Laws.{IsNextOf, AreInTurn, EachIsAmong}
 
--- where the desk is followed and connected, its opening was the last one; where it isn't, its
--- opening is next
-abbrev pub IsTurn : ℕ → ℕ → Bool → List ℕ → Type 0
-IsTurn desks desk true opened = (more : List ℕ) × (opened ≡ desk ∷ more) × AreInTurn desks opened
-IsTurn desks desk false opened = AreInTurn desks (desk ∷ opened)
+-- where there is no connection to the desk that is followed, its opening is next; where there is
+-- one, its opening was the last
+abbrev pub IsTurn : ℕ → ℕ → (closed : Bool) → List ℕ → Type 0
+IsTurn desks desk true opened = AreInTurn desks (desk ∷ opened)
+IsTurn desks desk false opened = (more : List ℕ) × (opened ≡ desk ∷ more) × AreInTurn desks opened
 
-pub turn_opened : (desks desk d : ℕ) (opened : List ℕ) → d ≡ desk → IsTurn desks desk false opened
-    → IsTurn desks desk true (d ∷ opened)
+pub turn_opened : (desks desk d : ℕ) (opened : List ℕ) → d ≡ desk → IsTurn desks desk true opened
+    → IsTurn desks desk false (d ∷ opened)
 turn_opened desks desk d opened is h =
     (opened, ap (λ z. z ∷ opened) is, subst (λ z. AreInTurn desks (z ∷ opened)) (sym is) h)
 
-pub turn_left : (desks desk : ℕ) (opened : List ℕ) → IsTurn desks desk true opened
-    → IsTurn desks (next_place desks desk) false opened
+pub turn_left : (desks desk : ℕ) (opened : List ℕ) → IsTurn desks desk false opened
+    → IsTurn desks (next_place desks desk) true opened
 turn_left desks desk opened h =
     (subst (λ z. IsNextOf desks (next_place desks desk) z) (sym h.1) refl, h.2)
-
-pub turn_holds : (desks desk : ℕ) (connected : Bool) (opened : List ℕ)
-    → IsTurn desks desk connected opened → AreInTurn desks opened
-turn_holds desks desk true opened h = h.2
-turn_holds desks desk false opened h = h.1
 
 -- ---- each desk is among the last
 
@@ -88,8 +81,7 @@ higher desks desk (before ∷ more) back d h there less =
           let at : desk + back ≡ suc back = omega (arith, is) in
           ap (λ z. get_or (desk ∷ before ∷ more) z d) at
           ∙ lower desks before more back d h.1 (omega (arith, at, there))
-          (omega (arith, last, less))
-          ∙ ap (λ z. z - back) last
+          (omega (arith, last, less)) ∙ ap (λ z. z - back) last
       | inr k ↦
           let is : desk ≡ before + 1 = h.0 ∙ k.1 in
           let at : desk + back ≡ suc (before + back) = omega (arith, is) in

@@ -1,8 +1,10 @@
-//! What follows of a follower's calls, whatever calls are made.
+//! What follows of the calls of a follower and of the connection to its desk, whatever calls are
+//! made.
 //!
-//! `Calls` of `specs/Histories` says of each call what its contract says.
+//! `Calls` of `specs/Histories` says of each call what its contract says. A question is asked where
+//! the follower said that the desk is to be asked, and at that time.
 
-ghost use Rattle.log_follower.specs.Laws.{QuestionsArePaced, FullAnswersGoOn, AsksWhereItEnds};
+ghost use Rattle.log_follower.specs.Laws.{QuestionsArePaced, FullAnswersGoOn};
 ghost use Rattle.log_follower.specs.Laws.{SilentDesksAreLeft, BehindDesksAreLeft, NoneIsForgotten};
 ghost use Rattle.log_follower.specs.Laws.{HurriesNeedAnswers, StopsForGood, Wakes};
 
@@ -24,14 +26,10 @@ pub fn hurries_need_answers()
 {}
 
 /// After an answer that brought new entries and left some of the log, of a desk that isn't behind,
-/// that desk is to be asked at once for the rest.
+/// that desk is to be asked at once for the rest; where it has answered 64 questions over the
+/// connection, which is all that a desk answers over one, the next desk is.
 pub fn full_answers_go_on()
     ensures { FullAnswersGoOn }
-{}
-
-/// A desk is asked for its log from where that ends which is held.
-pub fn asks_where_it_ends()
-    ensures { AsksWhereItEnds }
 {}
 
 /// A desk to which no connection could be opened for two seconds, or that has not answered a

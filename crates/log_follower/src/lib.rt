@@ -1,10 +1,9 @@
-//! Which desk of a hall is asked for its log, from where and when.
+//! Which desk of a hall is asked for its log, and when.
 //!
 //! A program that keeps a copy of the hall's log follows one desk at a time: it asks it for what
-//! the log has beyond the copy, over a connection that is kept, four times a second. It moves on to
-//! the next desk where this one is silent, is behind, or can't be reached. A `Follower` makes no
-//! system call and has no clock: its caller says what became of the connection and of the answers,
-//! and at what time.
+//! the log has beyond the copy, over a `KeptConnection`, four times a second. It moves on to the
+//! next desk where this one is silent, is behind, or can't be reached. A `Follower` makes no system
+//! call and has no clock: its caller says what came of the answers, and at what time.
 #![tactic(auto)]
 
 mod follower;
@@ -12,4 +11,4 @@ pub mod laws;
 mod stages;
 
 pub use follower::Follower;
-pub use stages::{FollowAction, FollowStage};
+pub use stages::{AnswerWorth, FollowAction};

@@ -1,21 +1,15 @@
 -- The log of a hall as people read it, a format of this project's own: a row for each entry, in
 -- columns.
 use Rattle.std.specs.Prelude.{◌≡◌, ℕ, ◌+◌, ◌-◌, ◌&&◌, Bool, true, false, not, nat_le, nat_lt}
-use Rattle.std.specs.Prelude.{if◌then◌else◌, List, [], ◌++◌, length, take, map, flat_map}
-use Rattle.std.specs.Prelude.{replicate, count_by, codes, decimal, slice_get, unwrap_or}
-use Rattle.std.specs.Prelude.{Some, Result, Ok, Err}
-use Rattle.std.specs.List.{range_with_len}
-use Rattle.std.specs.Option.{option_map_or}
+use Rattle.std.specs.Prelude.{if◌then◌else◌, List, [], ◌++◌, length, take, map, flat_map, replicate}
+use Rattle.std.specs.Prelude.{count_by, codes, decimal, slice_get, unwrap_or, Some, Result, Ok, Err}
+use Rattle.std.specs.{List.range_with_len, Option.option_map_or}
 use Rattle.acceptor.specs.declared.entry.Entry.{Entry}
 use Rattle.answers.specs.Transcripts.{answer_after}
 use Rattle.last_change.specs.Changes.{is_change, reads_change}
 use Rattle.sheets.specs.Sheet.{right}
-use Rattle.texts.specs.Codes.{code_name}
-use Rattle.texts.specs.Fields.{round_id}
-use Rattle.texts.specs.Names.{is_name_byte}
-use Rattle.texts.specs.Reading.{command_of}
-use Rattle.texts.specs.declared.answer.Answer.{Answer}
-use Rattle.texts.specs.declared.answer.Answer.TheVariants.{Done, Refused}
+use Rattle.texts.specs.{Codes.code_name, Fields.round_id, Names.is_name_byte, Reading.command_of}
+use Rattle.texts.specs.declared.answer.Answer.{Answer, TheVariants.Done, TheVariants.Refused}
 use Rattle.texts.specs.declared.command.RemarkedCommand.{RemarkedCommand}
 use Rattle.texts.specs.declared.reading.CommandFault.{CommandFault}
 use Rattle.log_rows.specs.declared.writing.ShownEntries.{ShownEntries}

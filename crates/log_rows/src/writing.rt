@@ -4,12 +4,11 @@ ghost use Rattle.std.specs.Prelude.{◌≡◌, ◌⊎◌, ◌+◌, ◌++◌, ◌
 ghost use Rattle.std.specs.Prelude.{if◌then◌else◌, [], length, take};
 ghost use Rattle.std.specs.Io.KnownBytes.{Appends};
 ghost use Rattle.lines.specs.Bytes.{AppendsPart};
-ghost use Rattle.lines.specs.declared.fault.RunFault.TheVariants as run_fault;
 ghost use Rattle.last_change.specs.Changes.{reads_change};
-ghost use Rattle.texts.specs.Fields.{round_id};
-ghost use Rattle.texts.specs.Reading.{command_of};
+ghost use Rattle.texts.specs.{Fields.round_id, Reading.command_of};
 ghost use Rattle.answers.specs.Transcripts.{IsTranscript};
 ghost use Rattle.log_rows.specs.Rows.{AddsRow, is_shown_so, row, row_from, rows};
+ghost use Rattle.lines.specs.declared.fault.RunFault.TheVariants as run_fault;
 
 use crate::rows::push_row;
 use acceptor::NoMemory;

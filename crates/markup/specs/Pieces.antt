@@ -1,7 +1,6 @@
 -- Pages of HTML from fixed texts and what fills their holes.
 use Rattle.std.specs.Prelude.{ℕ, ◌==◌, if◌then◌else◌, List, [], ◌∷◌, ◌++◌, decimal, filter, length}
-use Rattle.markup.specs.board_page.Escaped.{escaped}
-use Rattle.markup.specs.declared.pieces.Piece.{Piece}
+use Rattle.markup.specs.{board_page.Escaped.escaped, declared.pieces.Piece.Piece}
 use Rattle.markup.specs.declared.pieces.Piece.TheVariants.{Html, Text, Number}
 
 -- HTML as it is, a text so that HTML reads it as it is, and a number in decimal

@@ -1,3 +1,2 @@
 pub mod Adding
 pub mod Escaped
-pub mod Table

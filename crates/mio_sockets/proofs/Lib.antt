@@ -1,6 +1,6 @@
-pub mod Closed
 pub mod Driving
+pub mod Linking
+pub mod Settling
 pub mod Each
 pub mod Pushing
-pub mod Soonest
-pub mod Looking
+pub mod Linings

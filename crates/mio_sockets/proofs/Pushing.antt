@@ -1,16 +1,12 @@
 -- A frame that is given to the link of its desk.
 use Rattle.std.proofs.Common.{◌≡◌, ◌≢◌, refl, sym, ap, subst, ◌∙◌, inl, inr, ℕ, ◌+◌, suc, List, []}
-use Rattle.std.proofs.Common.{◌∷◌, ◌++◌, take, drop, get_or, set, None, Some, Bool}
-use Rattle.std.proofs.Common.{true, false, cond, ◌==◌}
-use Rattle.std.proofs.Math.Seq.{drop-cons}
+use Rattle.std.proofs.Common.{◌∷◌, ◌++◌, take, drop, get_or, set, None, Some, Bool, cond, ◌==◌}
+use Rattle.std.proofs.{Common.true, Common.false, Math.Seq.drop-cons}
 use Rattle.std.proofs.lemmas.Bool.{false≢true}
-use Rattle.std.proofs.lemmas.Bool.Decides.{eqb_tells}
-use Rattle.std.proofs.lemmas.List.{set_split, take-append-drop}
-use Rattle.std.proofs.lemmas.List.Quantifiers.{position-Some}
-use Rattle.std.proofs.lemmas.Iterator.Adapters.{position_from-zero}
-use Rattle.std.specs.List.{AllByRecursion, position_from}
-use Rattle.std.specs.Prelude.{position}
-use Rattle.mio_sockets.specs.Wiring.{Line, TakesFrame, PushesTo, has_number}
+use Rattle.std.proofs.lemmas.{Bool.Decides.eqb_tells, Iterator.Adapters.position_from-zero}
+use Rattle.std.proofs.lemmas.List.{set_split, take-append-drop, Quantifiers.position-Some}
+use Rattle.std.specs.{List.AllByRecursion, List.position_from, Prelude.position}
+use Rattle.mio_sockets.specs.Wiring.{NeighbourOf, TakesFrame, PushesTo, has_number}
 
 is_number : (a b : ℕ) → (a == b) ≡ true → a ≡ b
 is_number a b h =
@@ -31,13 +27,13 @@ none_passes {X} p i (x ∷ xs) h =
     go true none = absurd cc
     go false none = (refl, none)
 
-others : (to : ℕ) (ls : List Line) → AllByRecursion (λ l. has_number to l ≡ false) ls
-    → AllByRecursion (λ l. l.desk ≢ to) ls
+others : {W : Type 0} (to : ℕ) (ns : List (NeighbourOf W))
+    → AllByRecursion (λ n. has_number to n ≡ false) ns → AllByRecursion (λ n. n.line.desk ≢ to) ns
 others to [] h = tt
-others to (l ∷ ls) h = (is_other l.desk to h.0, others to ls h.1)
+others to (n ∷ ns) h = (is_other n.line.desk to h.0, others to ns h.1)
 
 -- no desk has this number
-pub pushed_nowhere : (to : ℕ) (frame : List ℕ) (old : List Line)
+pub pushed_nowhere : {W : Type 0} (to : ℕ) (frame : List ℕ) (old : List (NeighbourOf W))
     → position (has_number to) old ≡ None → PushesTo to frame old old
 pushed_nowhere to frame old h =
     inr (
@@ -47,10 +43,10 @@ pushed_nowhere to frame old h =
     )
 
 -- the desk at this place has it
-pub pushed_at : (to : ℕ) (frame : List ℕ) (old : List Line) (i : ℕ) (a b : Line)
-    → position (has_number to) old ≡ Some i → a ≡ get_or old i a → TakesFrame frame a b
-    → PushesTo to frame old (set old i b)
-pushed_at to frame old i a b found at takes =
+pub pushed_at : {W : Type 0} (to : ℕ) (frame : List ℕ) (old : List (NeighbourOf W)) (i : ℕ)
+    (a b : NeighbourOf W) → position (has_number to) old ≡ Some i → a ≡ get_or old i a
+    → TakesFrame frame a.line b.line → b.wire ≡ a.wire → PushesTo to frame old (set old i b)
+pushed_at {W} to frame old i a b found at takes wire =
     let there = position-Some (has_number to) old i a found in
     inl (record {
       before = take i old;
@@ -58,10 +54,11 @@ pushed_at to frame old i a b found at takes =
       a = a;
       b = b;
       was = sym (take-append-drop i old)
-          ∙ ap (λ (ls : List Line). take i old ++ ls)
-          (drop-cons old i a there.0 ∙ ap (λ (l : Line). l ∷ drop (suc i) old) (sym at));
+          ∙ ap (λ (ns : List (NeighbourOf W)). take i old ++ ns)
+          (drop-cons old i a there.0 ∙ ap (λ (n : NeighbourOf W). n ∷ drop (suc i) old) (sym at));
       is = set_split old i b there.0;
-      to_it = is_number a.desk to
-          (subst (λ (l : Line). has_number to l ≡ true) (sym at) there.1);
+      to_it = is_number a.line.desk to
+          (subst (λ (n : NeighbourOf W). has_number to n ≡ true) (sym at) there.1);
       takes = takes;
+      wire = wire;
     })

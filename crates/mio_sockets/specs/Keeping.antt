@@ -1,12 +1,13 @@
--- What is left to be done of the links to the other desks once they were kept (the project's own).
-use Rattle.std.specs.Prelude.{◌≡◌, ◌⊎◌, ◌<◌, ℕ, ◌+◌, List, [], ◌∷◌, length, drop}
-use Rattle.std.specs.List.{AllByRecursion}
+-- What the links to the other desks come to once they were kept (the project's own).
+use Rattle.std.specs.Prelude.{◌≡◌, ◌⊎◌, ◌<◌, ℕ, List, [], ◌∷◌, ◌++◌, Option}
+use Rattle.polled.specs.Telling.{Tells}
+use Rattle.links.specs.{Histories.Step, declared.stages.LinkStage.LinkStage}
 use Rattle.links.specs.Links.{LinkState, wish_of}
-use Rattle.links.specs.declared.stages.LinkStage.{LinkStage}
 use Rattle.links.specs.declared.stages.LinkStage.TheVariants.{Closed, Paused, Opening, Open}
+use Rattle.desk_sockets.specs.Wires.{LooksIn, Wired}
+use Rattle.mio_sockets.specs.{Linking.phase_of, Waiting.quiet_in}
+use Rattle.mio_sockets.specs.Wiring.{Goes, IsSameDesk, NeighbourOf, told_all}
 use Rattle.links.specs.declared.stages.LinkAction.TheVariants as wish
-use Rattle.mio_sockets.specs.Waiting.{quiet_in}
-use Rattle.mio_sockets.specs.Wiring.{Line}
 
 -- a connection failed at this moment, and a pause began
 abbrev pub FailedAt : ℕ → LinkStage → Type 0
@@ -20,29 +21,25 @@ FailedAt now (Open frames quiet) = ⊥
 abbrev pub IsSettled : ℕ → LinkState → Type 0
 IsSettled now s =
     (wish_of s now ≡ wish.Rest)
-    ⊎ (FailedAt now s.stage
-    ⊎ ((wish_of s now ≡ wish.Write) × (quiet_in s.stage now < 3000)))
+    ⊎ (FailedAt now s.stage ⊎ ((wish_of s now ≡ wish.Write) × (quiet_in s.stage now < 3000)))
 
-abbrev pub AreSettled : ℕ → List Line → Type 0
-AreSettled now lines = AllByRecursion (λ (l : Line). IsSettled now l.link) lines
+-- The link to a desk was kept at this moment: its connection was looked at, where one is open or
+-- being opened; the link was driven over it, by calls that this is told of; and nothing is left to
+-- be done now. The desk's number, its address and its count of lost frames stay.
+pub record IsKept {W : Type 0} (wired : W → Option (List Wired)) (now : ℕ) (a b : NeighbourOf W)
+    : Type 0 where
+  pub same : IsSameDesk a.line b.line
+  pub lost : b.line.lost ≡ a.line.lost
+  pub looks : List Wired
+  pub seen : LooksIn (phase_of a.line.link.stage) looks
+  pub steps : List Step
+  pub goes : Goes a.line.link steps b.line.link
+  pub told : Tells (wired a.wire) (wired b.wire) (looks ++ told_all a.line.address steps)
+  pub settled : IsSettled now b.line.link
 
--- ---- how much is still to be done at most
-
-abbrev pub is_connected : LinkStage → ℕ
-is_connected Closed = 0
-is_connected (Paused since millis) = 0
-is_connected (Opening since) = 0
-is_connected (Open frames quiet) = 1
-
--- each byte that is still to be sent, and the end of each frame
-abbrev pub left_of_all : List (List ℕ) → ℕ
-left_of_all [] = 0
-left_of_all (f ∷ fs) = (length f + 1) + left_of_all fs
-
-abbrev pub left_of_first : List (List ℕ) → ℕ → ℕ
-left_of_first [] begun = 0
-left_of_first (f ∷ fs) begun = (length (drop begun f) + 1) + left_of_all fs
-
--- and the end of the connection
-abbrev pub left_in : LinkState → ℕ
-left_in s = is_connected s.stage + left_of_first s.waiting s.begun
+-- each of them, in the order of the desks
+abbrev pub AreKept : {W : Type 0} → (W → Option (List Wired)) → ℕ → List (NeighbourOf W)
+    → List (NeighbourOf W) → Type 0
+AreKept wired now [] [] = Unit {0}
+AreKept wired now (a ∷ olds) (b ∷ news) = IsKept wired now a b × AreKept wired now olds news
+AreKept wired now _ _ = ⊥

@@ -1,5 +1,5 @@
 pub mod Wiring
+pub mod Calling
 pub mod Waiting
+pub mod Linking
 pub mod Keeping
-pub mod Keying
-pub mod Looking

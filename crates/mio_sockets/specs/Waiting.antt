@@ -1,13 +1,11 @@
 -- For how long the links to the other desks may be left (the project's own).
 use Rattle.std.specs.Prelude.{ℕ, ◌-◌, min, ◌&&◌, ◌||◌, Bool, true, false, List, [], ◌∷◌, Option}
-use Rattle.std.specs.Prelude.{None, Some}
-use Rattle.std.specs.Option.{is_none}
-use Rattle.links.specs.Links.{wait_of, wish_of}
-use Rattle.links.specs.declared.stages.LinkStage.{LinkStage}
+use Rattle.std.specs.{Prelude.None, Prelude.Some, Option.is_none}
+use Rattle.links.specs.Links.{LinkState, wait_of, wish_of}
+use Rattle.links.specs.declared.stages.{LinkStage.LinkStage, LinkAction.LinkAction}
 use Rattle.links.specs.declared.stages.LinkStage.TheVariants.{Closed, Paused, Opening, Open}
-use Rattle.links.specs.declared.stages.LinkAction.{LinkAction}
+use Rattle.mio_sockets.specs.Wiring.{NeighbourOf}
 use Rattle.links.specs.declared.stages.LinkAction.TheVariants as wish
-use Rattle.mio_sockets.specs.Wiring.{Line}
 
 -- for how long an open connection took nothing
 abbrev pub quiet_in : LinkStage → ℕ → ℕ
@@ -32,9 +30,8 @@ first_some (Some a) b = Some a
 
 -- in how many milliseconds the link to a desk is to be kept again: once its wish may be another
 -- one, or else once that is overdue
-abbrev pub wait_in : Line → ℕ → Option ℕ
-wait_in l now =
-    first_some (wait_of l.link now) (wait_for (wish_of l.link now) (quiet_in l.link.stage now))
+abbrev pub wait_in : LinkState → ℕ → Option ℕ
+wait_in s now = first_some (wait_of s now) (wait_for (wish_of s now) (quiet_in s.stage now))
 
 abbrev pub sooner : Option ℕ → Option ℕ → Option ℕ
 sooner None b = b
@@ -42,9 +39,9 @@ sooner (Some a) None = Some a
 sooner (Some a) (Some b) = Some (min a b)
 
 -- the link that is to be kept soonest
-abbrev pub soonest : List Line → ℕ → Option ℕ
+abbrev pub soonest : {W : Type 0} → List (NeighbourOf W) → ℕ → Option ℕ
 soonest [] now = None
-soonest (l ∷ ls) now = sooner (wait_in l now) (soonest ls now)
+soonest (n ∷ ns) now = sooner (wait_in n.line.link now) (soonest ns now)
 
 -- something is still to be sent to a desk that is not known to be out of reach: a connection is
 -- being opened, or bytes wait for an open one
@@ -61,6 +58,6 @@ is_write wish.Open = false
 is_write wish.Close = false
 is_write wish.GiveUp = false
 
-abbrev pub is_busy : ℕ → Line → Bool
-is_busy now l =
-    is_none l.link.down && (is_opening l.link.stage || is_write (wish_of l.link now))
+abbrev pub is_busy : {W : Type 0} → ℕ → NeighbourOf W → Bool
+is_busy now n =
+    is_none n.line.link.down && (is_opening n.line.link.stage || is_write (wish_of n.line.link now))

@@ -1,77 +1,116 @@
 //! The links to the desks of a hall.
 
-ghost use Rattle.std.specs.Prelude.{◌≡◌, [], ◌∷◌, IfOk, position, take};
+ghost use Rattle.std.specs.Prelude.{◌≡◌, ◌++◌, IfOk, OnOk, position, take};
 ghost use Rattle.std.specs.List.{list_any};
-ghost use Rattle.mio_sockets.specs.Keeping.{AreSettled};
-ghost use Rattle.mio_sockets.specs.Looking.{LookAtAll, Looks};
+ghost use Rattle.desk_sockets.specs.{Keying.keys_of, Wires.address_of};
+ghost use Rattle.mio_sockets.specs.{Keeping.AreKept, Calling.AreUnder};
 ghost use Rattle.mio_sockets.specs.Waiting.{is_busy, sooner, soonest};
-ghost use Rattle.mio_sockets.specs.Wiring.{has_number};
-ghost use Rattle.serving.specs.Adding.{Push, Hands};
-ghost use Rattle.mio_sockets.specs.Wiring.{KeepsLines, PushesTo, lines_from};
+ghost use Rattle.mio_sockets.specs.Wiring.{PushesTo, has_number, lines_at, lines_from, lines_of};
 
 use crate::neighbour::Neighbour;
-use crate::peer_connections::PeerConnections;
-use crate::socket_connections::SocketConnections;
 use crate::tellings::{Subject, tell, tell_difference};
+use desk_sockets::{CallingDesk, DeskConnection, SocketConnection, address_of};
 use links::Notice;
+use mio::Registry;
 use multiplex::PeerLinks;
+use polled::sockets::TcpConnector;
 use serving::Peers;
-use std::alloc::{AllocError, Global};
+use std::alloc::Global;
+use std::io;
 use std::io::Write;
 use std::marker::Model;
-use std::net::SocketAddr;
+use std::net::{Net, SocketAddr};
+use std::random::RandomSource;
 use wire::Difference;
 
 /// The most desks, desk 1 to desk 5.
 const MOST_DESKS: usize = 5;
 
 /// The links to the desks of a hall over TCP.
-pub type SocketLinks<'a, R, W> = DeskLinks<SocketConnections<'a, R>, W>;
+pub type SocketLinks<'a, R, F> = DeskLinks<SocketConnection<TcpConnector<'a, R>>, F>;
+
+/// A desk of the hall, and the connection to it over TCP.
+pub type TcpNeighbour<'a, R> = Neighbour<SocketConnection<TcpConnector<'a, R>>>;
 
 /// Where the lines about other desks go, and whether it is left out which desk can't be reached.
 #[derive(Drop)]
-struct NoticeLines<W> {
-    writer: W,
+struct NoticeLines<F> {
+    writer: F,
     quiet: bool,
 }
 
-/// The links to the desks of a hall, over connections of some kind, and where the lines go that say
-/// which desk can't be reached, and which differs. A contract sees the connections, and each desk
-/// that has an address.
+/// The links to the desks of a hall, each over a connection of some kind, and where the lines
+/// go that say which desk can't be reached, and which differs. A contract sees each desk that has
+/// an address, and the connection to it.
 #[derive(Drop)]
-pub struct DeskLinks<C, W> {
+pub struct DeskLinks<W, F> {
     alloc: Global,
-    wires: C,
-    desks: Vec<Neighbour>,
-    lines: NoticeLines<W>,
+    desks: Vec<Neighbour<W>>,
+    lines: NoticeLines<F>,
     /// When the links were kept last, in milliseconds.
     kept_at: u64,
 }
 
-impl<C, W> Model for DeskLinks<C, W> {
-    ghost use Rattle.mio_sockets.specs.Wiring.{LinksOf, links_of};
+impl<W, F> Model for DeskLinks<W, F> {
+    ghost use Rattle.std.specs.Prelude.{List};
+    ghost use Rattle.mio_sockets.specs.Wiring.{NeighbourOf};
 
-    ghost Value = { LinksOf C };
+    ghost Value = { List (NeighbourOf W) };
 
-    ghost view = { λ l. links_of l.desks.items l.wires };
+    ghost view = { λ l. l.desks.items };
 }
 
-/// The desks at these addresses: desk 1 at the first one, and so on.
-fn neighbours(alloc: Global, addresses: &[Option<SocketAddr>]) -> Result<Vec<Neighbour>, AllocError>
-    ensures { IfOk result (λ desks. desks.items ≡ lines_from 1 (take 5 addresses.now)) }
+/// Adds the desk with this number, where its address is known, and the connection to it, which
+/// isn't begun.
+fn push_desk<'a, R: Net + RandomSource>(
+    desks: &mut Vec<TcpNeighbour<'a, R>>,
+    system: &'a R,
+    alloc: Global,
+    registry: &Registry,
+    caller: CallingDesk,
+    addresses: &[Option<SocketAddr>],
+    desk: u8,
+) -> io::Result<()>
+    ensures lines { OnOk result (lines_of desks.new.items
+        ≡ lines_of desks.old.items ++ lines_at desk (address_of addresses.now desk)) }
+    ensures keys { OnOk result (AreUnder (keys_of caller.key caller.former) desks.old.items
+        → AreUnder (keys_of caller.key caller.former) desks.new.items) }
+{
+    let Some(address) = address_of(addresses, desk) else {
+        return Ok(());
+    };
+    let copy = Vec::from_slice(alloc, addresses)?;
+    let connector = TcpConnector::new(system, registry.try_clone()?);
+    let wire = SocketConnection::between(connector, alloc, caller, desk);
+    desks.push(Neighbour::new(alloc, desk, address, copy, wire))?;
+    Ok(())
+}
+
+/// The desks of a hall at these addresses, desk 1 at the first one, and so on, and the connections
+/// of this desk to them over TCP, of which the poll of this registry tells, and which aren't begun.
+/// Addresses after the fifth are left out.
+pub fn neighbours<'a, R: Net + RandomSource>(
+    system: &'a R,
+    alloc: Global,
+    registry: &Registry,
+    caller: CallingDesk,
+    addresses: &[Option<SocketAddr>],
+) -> io::Result<Vec<TcpNeighbour<'a, R>>>
+    ensures lines { IfOk result (λ desks. lines_of desks.items
+        ≡ lines_from 1 (take 5 addresses.now)) }
+    ensures keys { IfOk result (λ desks. AreUnder (keys_of caller.key caller.former) desks.items) }
 {
     let mut desks = Vec::with_capacity(alloc, MOST_DESKS)?;
     for place in 0..addresses.len().min(MOST_DESKS) {
-        if let Some(address) = addresses[place] {
-            desks.push(Neighbour::new(alloc, (place + 1) as u8, address))?;
-        }
+        let desk = (place + 1) as u8;
+        push_desk(&mut desks, system, alloc, registry, caller, addresses, desk)?;
     }
     Ok(desks)
 }
 
 /// Writes the line about a desk that is due, if one is, and such lines are written at all. Where it
 /// can't be written, it is left out.
-fn tell_due<W: Write>(lines: &mut NoticeLines<W>, subject: Subject, due: Option<Notice>) {
+fn tell_due<F: Write>(lines: &mut NoticeLines<F>, subject: Subject, due: Option<Notice>) {
     if lines.quiet {
         return;
     }
@@ -81,53 +120,34 @@ fn tell_due<W: Write>(lines: &mut NoticeLines<W>, subject: Subject, due: Option<
 }
 
 /// What a line about a desk says beside what became of it.
-fn subject_of<C: PeerConnections>(desk: &Neighbour, wires: &C) -> Subject
-    ensures desk { result.desk ≡ desk.now.desk }
-    ensures address { result.address ≡ desk.now.address }
+fn subject_of<W: DeskConnection>(desk: &Neighbour<W>) -> Subject
+    ensures desk { result.desk ≡ desk.now.line.desk }
+    ensures address { result.address ≡ desk.now.line.address }
 {
     Subject {
         desk: desk.desk(),
         address: desk.address(),
-        trouble: wires.trouble(desk.desk()),
+        trouble: desk.trouble(),
     }
 }
 
 /// Keeps each link.
-fn keep_each<C: PeerConnections, W: Write>(
-    desks: &mut [Neighbour],
-    wires: &mut C,
-    lines: &mut NoticeLines<W>,
+fn keep_each<W: DeskConnection, F: Write>(
+    desks: &mut [Neighbour<W>],
+    lines: &mut NoticeLines<F>,
     now: u64,
 )
-    ensures keeps { KeepsLines (C.wired wires.old) (C.wired wires.new) desks.old desks.new }
-    ensures settled { AreSettled now desks.new }
-    ensures looks { Looks C.looked wires.old wires.new (LookAtAll desks.old) }
+    ensures { AreKept W.wired now desks.old desks.new }
 {
     for place in 0..desks.len() {
         let desk = &mut desks[place];
-        let due = desk.keep(wires, now);
-        tell_due(lines, subject_of(desk, wires), due);
+        let due = desk.keep(now);
+        tell_due(lines, subject_of(desk), due);
     }
 }
 
-/// Goes on with the connections that were closed before, and keeps each link.
-#[tactic(auto, using(crate::proofs::Closed::kept_after, crate::proofs::Closed::looked_after))]
-fn keep_all<C: PeerConnections, W: Write>(
-    desks: &mut [Neighbour],
-    wires: &mut C,
-    lines: &mut NoticeLines<W>,
-    now: u64,
-)
-    ensures keeps { KeepsLines (C.wired wires.old) (C.wired wires.new) desks.old desks.new }
-    ensures settled { AreSettled now desks.new }
-    ensures looks { Looks C.looked wires.old wires.new (LookAtAll desks.old) }
-{
-    wires.end_closed(now);
-    keep_each(desks, wires, lines, now);
-}
-
 /// The place of the desk with this number.
-fn place_of(desks: &[Neighbour], desk: u8) -> Option<usize>
+fn place_of<W: DeskConnection>(desks: &[Neighbour<W>], desk: u8) -> Option<usize>
     ensures { result ≡ position (has_number desk) desks.now }
 {
     desks.iter().position(|neighbour| neighbour.desk() == desk)
@@ -145,7 +165,7 @@ fn sooner(a: Option<u64>, b: Option<u64>) -> Option<u64>
 }
 
 /// The shortest wait of all.
-fn soonest(desks: &[Neighbour], now: u64) -> Option<u64>
+fn soonest<W: DeskConnection>(desks: &[Neighbour<W>], now: u64) -> Option<u64>
     ensures { result ≡ soonest desks.now now }
 {
     let mut wait = None;
@@ -156,36 +176,27 @@ fn soonest(desks: &[Neighbour], now: u64) -> Option<u64>
 }
 
 /// Whether something is still to be sent to one of these that is not known to be out of reach.
-fn is_busy(desks: &[Neighbour], now: u64) -> bool
+fn is_busy<W: DeskConnection>(desks: &[Neighbour<W>], now: u64) -> bool
     ensures { result ≡ list_any (is_busy now) desks.now }
 {
     desks.iter().any(|desk| desk.is_busy(now))
 }
 
-impl<C: PeerConnections, W: Write> DeskLinks<C, W> {
-    /// The links to the desks at these addresses: desk 1 at the first one, and so on. Frames to a
-    /// desk without an address are dropped. Addresses after the fifth are left out. Where it is to
-    /// be `quiet`, nothing is said of desks that can't be reached.
-    pub fn new(
-        alloc: Global,
-        addresses: &[Option<SocketAddr>],
-        wires: C,
-        writer: W,
-        quiet: bool,
-    ) -> Result<DeskLinks<C, W>, AllocError>
+impl<W: DeskConnection, F: Write> DeskLinks<W, F> {
+    /// The links to these desks. Frames to another one are dropped. Where it is to be `quiet`,
+    /// nothing is said of desks that can't be reached.
+    pub fn new(alloc: Global, desks: Vec<Neighbour<W>>, writer: F, quiet: bool) -> DeskLinks<W, F>
     where
-        C: Drop,
         W: Drop,
-        ensures desks { IfOk result (λ links. links.lines ≡ lines_from 1 (take 5 addresses.now)) }
-        ensures wires { IfOk result (λ links. links.wires ≡ wires) }
+        F: Drop,
+        ensures { result ≡ desks.items }
     {
-        Ok(DeskLinks {
+        DeskLinks {
             alloc,
-            wires,
-            desks: neighbours(alloc, addresses)?,
+            desks,
             lines: NoticeLines { writer, quiet },
             kept_at: 0,
-        })
+        }
     }
 
     /// When they were kept last, in milliseconds.
@@ -195,23 +206,23 @@ impl<C: PeerConnections, W: Write> DeskLinks<C, W> {
 
     /// Whether something is still to be sent to a desk that is not known to be out of reach.
     pub fn is_busy(&self, now: u64) -> bool
-        ensures { result ≡ list_any (is_busy now) self.now.lines }
+        ensures { result ≡ list_any (is_busy now) self.now }
     {
         is_busy(&self.desks, now)
     }
 }
 
-impl<C: PeerConnections, W: Write> Peers for DeskLinks<C, W> {
+impl<W: DeskConnection, F: Write> Peers for DeskLinks<W, F> {
     ghost use Rattle.std.specs.Prelude.{None};
 
     // What a desk was handed over to its link is said by the clause `frame`.
     ghost handed = { λ _. None };
 
     /// Gives a frame to the link of its desk. It is written once the links are kept, with all
-    /// others that wait there. Where memory is refused for it, it is dropped, which is counted.
+    /// others that wait there. Where it has no bytes, or memory is refused for it, it is dropped,
+    /// which is counted.
     fn push(&mut self, to: u8, frame: &[u8])
-        ensures frame { PushesTo to frame.now self.old.lines self.new.lines }
-        ensures wires { self.new.wires ≡ self.old.wires }
+        ensures frame { PushesTo to frame.now self.old self.new }
     {
         if let Some(place) = place_of(&self.desks, to) {
             self.desks[place].push(self.alloc, frame);
@@ -219,7 +230,7 @@ impl<C: PeerConnections, W: Write> Peers for DeskLinks<C, W> {
     }
 }
 
-impl<C: PeerConnections, W: Write> PeerLinks for DeskLinks<C, W> {
+impl<W: DeskConnection, F: Write> PeerLinks for DeskLinks<W, F> {
     ghost use Rattle.std.specs.Prelude.{◌≡◌, None};
     ghost use Rattle.mio_sockets.specs.Waiting.{soonest};
 
@@ -227,19 +238,15 @@ impl<C: PeerConnections, W: Write> PeerLinks for DeskLinks<C, W> {
     ghost kept = { λ _. None };
 
     // When the link is to be kept that is to be kept soonest.
-    ghost due = { λ links now left. left ≡ soonest links.lines now };
+    ghost due = { λ links now left. left ≡ soonest links now };
 
     /// Drives each link: opens, writes and closes what is due, and tells the lines that are due.
     /// Connections that were closed before go on to end.
     fn keep(&mut self, now: u64)
-        ensures keeps { KeepsLines (C.wired self.old.wires) (C.wired self.new.wires)
-            self.old.lines self.new.lines }
-        ensures settled { AreSettled now self.new.lines }
-        ensures looks { Looks C.looked self.old.wires self.new.wires
-            (LookAtAll self.old.lines) }
+        ensures { AreKept W.wired now self.old self.new }
     {
         self.kept_at = now;
-        keep_all(&mut self.desks, &mut self.wires, &mut self.lines, now);
+        keep_each(&mut self.desks, &mut self.lines, now);
     }
 
     /// Writes that another desk differs. Where that can't be written, it is left out.

@@ -2,17 +2,9 @@
 //! makes anybody wait.
 #![tactic(auto)]
 
-mod asking;
 mod desk_links;
-mod endings;
-mod hall_connections;
-mod keyed_stream;
 mod neighbour;
-mod peer_connection;
-mod peer_connections;
-mod socket_connections;
 mod tellings;
 
-pub use desk_links::{DeskLinks, SocketLinks};
-pub use peer_connections::{ConnectionOutcome, ConnectionTrouble, Opening, PeerConnections};
-pub use socket_connections::SocketConnections;
+pub use desk_links::{DeskLinks, SocketLinks, TcpNeighbour, neighbours};
+pub use neighbour::Neighbour;

@@ -1,8 +1,7 @@
 //! The lines about other desks.
 
-use crate::peer_connections::ConnectionTrouble;
+use desk_sockets::{CallTrouble, ConnectionTrouble};
 use links::Notice;
-use sealed::ends::CallTrouble;
 use std::io;
 use std::io::Write;
 use std::net::SocketAddr;

@@ -1,16 +1,13 @@
 -- Mirrors of logs of which one begins the other.
 use Rattle.std.proofs.Common.{◌≡◌, ◌⊎◌, inl, inr, refl, sym, ap, subst, ◌∙◌, ℕ, zero, suc, ◌+◌, ◌-◌}
-use Rattle.std.proofs.Common.{◌≤◌, List, [], ◌∷◌, ◌++◌, length}
-use Rattle.std.proofs.Common.{take, drop, Option, Some, None, slice_get}
-use Rattle.std.proofs.Common.{arith, take-append-drop}
+use Rattle.std.proofs.Common.{◌≤◌, List, [], ◌∷◌, ◌++◌, length, take, drop, Option, Some, None}
+use Rattle.std.proofs.Common.{slice_get, arith, take-append-drop}
 use Rattle.std.proofs.lemmas.List.{append-nil, drop-drop}
 use Rattle.acceptor.specs.declared.entry.Entry.{Entry}
-use Rattle.learner.proofs.Evolves.{prefix_self, prefix_trans}
-use Rattle.learner.specs.Laws.{IsPrefix}
+use Rattle.learner.{proofs.Evolves.prefix_self, proofs.Evolves.prefix_trans, specs.Laws.IsPrefix}
 use Rattle.mirror.specs.Mirrors.{DiffersFirst, beyond}
-use Rattle.mirror.specs.Fronts.{Telling, TakesAs, TakesAll, BeginsOne, NoneDiffers}
-use Rattle.mirror.specs.Fronts.{LogsOfAgree, MirrorsHoldFronts}
-use Rattle.mirror.specs.declared.mirror.MirrorGrowth.{MirrorGrowth}
+use Rattle.mirror.specs.Fronts.{Telling, TakesAs, TakesAll, BeginsOne, NoneDiffers, LogsOfAgree}
+use Rattle.mirror.specs.{Fronts.MirrorsHoldFronts, declared.mirror.MirrorGrowth.MirrorGrowth}
 use Rattle.mirror.specs.declared.mirror.MirrorGrowth.TheVariants.{Grew, Known, Gap, Differs}
 
 tail_prefix : (x z : Entry) (xs zs : List Entry) → IsPrefix (x ∷ xs) (z ∷ zs) → IsPrefix xs zs
@@ -19,8 +16,7 @@ tail_prefix x z xs zs p = let h = p.1 in (p.0, cc)
 same_head : (x z : Entry) (xs zs : List Entry) → IsPrefix (x ∷ xs) (z ∷ zs) → x ≡ z
 same_head x z xs zs p = let h = p.1 in cc
 
-with_head : (x z : Entry) (xs zs : List Entry) → x ≡ z → IsPrefix xs zs
-    → IsPrefix (x ∷ xs) (z ∷ zs)
+with_head : (x z : Entry) (xs zs : List Entry) → x ≡ z → IsPrefix xs zs → IsPrefix (x ∷ xs) (z ∷ zs)
 with_head x z xs zs same p = let h = p.1 in (p.0, cc)
 
 drop_prefix : (k : ℕ) (xs ys : List Entry) → IsPrefix xs ys → IsPrefix (drop k xs) (drop k ys)
@@ -78,19 +74,16 @@ no_other : (held log m : List Entry) (position count at : ℕ) → IsPrefix held
     → DiffersFirst held position (take count (drop position m)) at → ⊥
 no_other held log m position count at p q d =
     let its =
-    get_front m log (position + d.place) d.its q
-    (get_drop m position d.place d.its
+    get_front m log (position + d.place) d.its q (get_drop m position d.place d.its
     (get_front (take count (drop position m)) (drop position m) d.place d.its
     (drop count (drop position m), take-append-drop count (drop position m)) d.tells)) in
-    d.other
-    (some_of d.mine d.its
+    d.other (some_of d.mine d.its
     (sym (get_front held log at d.mine p d.holds) ∙ ap (slice_get log) d.there ∙ its))
 
 -- ---- one call
 
 one_call : (held log m : List Entry) (position count : ℕ) (o : Option MirrorGrowth)
-    (next : List Entry)
-    → IsPrefix held log → IsPrefix m log
+    (next : List Entry) → IsPrefix held log → IsPrefix m log
     → TakesAs held position (take count (drop position m)) o next
     → IsPrefix next log × ((at : ℕ) → o ≡ Some (Differs at) → ⊥)
 one_call held log m position count None next p q t =
@@ -123,8 +116,7 @@ shifted one more es b =
     record { place = suc b.place; one = b.one; here = b.here; begins = b.begins }
 
 none_more : (one : Telling) (more : List Telling)
-    → ((at : ℕ) → one.outcome ≡ Some (Differs at) → ⊥) → NoneDiffers more
-    → NoneDiffers (one ∷ more)
+    → ((at : ℕ) → one.outcome ≡ Some (Differs at) → ⊥) → NoneDiffers more → NoneDiffers (one ∷ more)
 none_more one more first rest zero other at here is =
     let same : one ≡ other = cc in first at (ap (λ (t : Telling). t.outcome) same ∙ is)
 none_more one more first rest (suc place) other at here is = rest place other at here is

@@ -1,13 +1,9 @@
 -- Entries that are held and entries that are reported, position by position.
-use Rattle.std.proofs.Common.{◌≡◌, ◌≢◌, ◌⊎◌, inl, inr, refl, sym, ap}
-use Rattle.std.proofs.Common.{◌∙◌, ℕ, zero, suc, ◌+◌, ◌<◌, ◌≤◌}
-use Rattle.std.proofs.Common.{true, false, List, [], ◌∷◌, length, Some, None, slice_get}
-use Rattle.std.proofs.Common.{arith, subst}
-use Rattle.std.proofs.lemmas.Bool.Decides.{nat_tests}
-use Rattle.std.proofs.lemmas.Option.{slice_get_within}
+use Rattle.std.proofs.Common.{◌≡◌, ◌≢◌, ◌⊎◌, inl, inr, refl, sym, ap, ◌∙◌, ℕ, zero, suc, ◌+◌, ◌<◌}
+use Rattle.std.proofs.Common.{◌≤◌, true, false, List, length, Some, slice_get, arith, subst}
+use Rattle.std.proofs.lemmas.{Bool.Decides.nat_tests, Option.slice_get_within}
 use Rattle.std.proofs.lemmas.Slice.Eq.{bytes_eq-Decides}
-use Rattle.acceptor.specs.Entries.{is_same_entry}
-use Rattle.acceptor.specs.declared.entry.Entry.{Entry}
+use Rattle.acceptor.specs.{Entries.is_same_entry, declared.entry.Entry.Entry}
 use Rattle.mirror.specs.Mirrors.{AreHeldBelow, DiffersFirst}
 
 entry_ext : (a b : Entry) → a.id ≡ b.id → a.text ≡ b.text → a ≡ b
@@ -42,10 +38,6 @@ below_or_at (suc i) (suc n) h = up (below_or_at i n (omega arith))
     up (inl less) = inl (omega arith)
     up (inr same) = inr (ap suc same)
 
-pub none_held : (held told : List Entry) (position end : ℕ) → end ≡ position
-    → AreHeldBelow end held position told
-none_held held told position end same place mine its less h t = absurd (omega (arith, less, same))
-
 -- one position more
 pub one_held : (held told : List Entry) (position place end : ℕ) (a b : Entry)
     → AreHeldBelow (position + place) held position told → end ≡ position + place + 1
@@ -60,18 +52,6 @@ one_held held told position place end a b before is h t same i mine its less m s
         some_of mine a (sym m ∙ ap (λ (j : ℕ). slice_get held (position + j)) e ∙ h)
         ∙ same
         ∙ some_of b its (sym t ∙ ap (slice_get told) (sym e) ∙ s)
-
-past_end : (xs : List Entry) (i : ℕ) → slice_get xs i ≡ None → length xs ≤ i
-past_end [] i h = omega arith
-past_end (x ∷ xs) zero h = absurd cc
-past_end (x ∷ xs) (suc i) h = let k = past_end xs i h in omega (arith, k)
-
--- nothing more is held
-pub all_held : (held told : List Entry) (position end : ℕ)
-    → AreHeldBelow end held position told → slice_get held end ≡ None
-    → AreHeldBelow (length held) held position told
-all_held held told position end before none i mine its less m s =
-    before i mine its (omega (arith, less, past_end held end none)) m s
 
 -- nothing more was reported
 pub all_told : (held told : List Entry) (position end : ℕ)

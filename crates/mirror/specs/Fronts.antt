@@ -1,14 +1,12 @@
 -- Mirrors of logs of which one begins the other (the project's own).
-use Rattle.std.specs.Prelude.{ℕ, ◌≡◌, ◌≤◌, ◌⊎◌, List, [], ◌∷◌, length, take, drop, Option}
-use Rattle.std.specs.Prelude.{None, Some, slice_get}
+use Rattle.std.specs.Prelude.{ℕ, ◌≡◌, ◌≤◌, ◌⊎◌, List, [], ◌∷◌, length, take, drop, Option, None}
+use Rattle.std.specs.Prelude.{Some, slice_get}
 use Rattle.acceptor.specs.declared.entry.Entry.{Entry}
-use Rattle.formats.specs.declared.events.Event.{Event}
-use Rattle.formats.specs.declared.styles.SheetStyle.{SheetStyle as Style}
+use Rattle.formats.specs.declared.{events.Event.Event, styles.SheetStyle.SheetStyle as Style}
 use Rattle.answers.specs.Answers.{sheet_at}
 use Rattle.learner.specs.Laws.{IsPrefix}
 use Rattle.mirror.specs.Mirrors.{Takes, TakesPart}
-use Rattle.mirror.specs.declared.mirror.MirrorGrowth.{MirrorGrowth}
-use Rattle.mirror.specs.declared.mirror.MirrorGrowth.TheVariants.{Differs}
+use Rattle.mirror.specs.declared.mirror.MirrorGrowth.{MirrorGrowth, TheVariants.Differs}
 
 -- entries that a log has from a position on, as many as were reported, and what came of them:
 -- nothing is said where memory was refused
@@ -38,8 +36,7 @@ TakesAll held (one ∷ more) after =
 abbrev pub LogsOfAgree : List Telling → Type 0
 LogsOfAgree tellings =
     (i j : ℕ) (one other : Telling) → slice_get tellings i ≡ Some one
-    → slice_get tellings j ≡ Some other
-    → IsPrefix one.log other.log ⊎ IsPrefix other.log one.log
+    → slice_get tellings j ≡ Some other → IsPrefix one.log other.log ⊎ IsPrefix other.log one.log
 
 -- entries begin the log of one of these
 pub record BeginsOne (tellings : List Telling) (entries : List Entry) : Type 0 where
@@ -60,8 +57,7 @@ NoneDiffers tellings =
 abbrev pub MirrorsHoldFronts : Type 0
 MirrorsHoldFronts =
     (tellings : List Telling) (after : List Entry) → LogsOfAgree tellings
-    → TakesAll [] tellings after
-    → NoneDiffers tellings × ((after ≡ []) ⊎ BeginsOne tellings after)
+    → TakesAll [] tellings after → NoneDiffers tellings × ((after ≡ []) ⊎ BeginsOne tellings after)
 
 -- Where one of two lists begins the other, their sheets are the same at each position that both
 -- have.

@@ -10,8 +10,7 @@ use Rattle.mirror.specs.declared.mirror.MirrorGrowth.TheVariants.{Grew, Known, G
 abbrev pub AreHeldBelow : ℕ → List Entry → ℕ → List Entry → Type 0
 AreHeldBelow end held position told =
     (place : ℕ) (mine its : Entry) → position + place < end
-    → slice_get held (position + place) ≡ Some mine → slice_get told place ≡ Some its
-    → mine ≡ its
+    → slice_get held (position + place) ≡ Some mine → slice_get told place ≡ Some its → mine ≡ its
 
 -- another entry is held at this position than was reported for it, and at none before it
 pub record DiffersFirst (held : List Entry) (position : ℕ) (told : List Entry) (at : ℕ)

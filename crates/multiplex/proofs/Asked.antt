@@ -1,46 +1,36 @@
 -- What was asked, one after the other.
 use Rattle.std.proofs.Common.{◌≡◌, ◌≢◌, ◌↔◌, ◌⊎◌, inl, inr, refl, sym, ap, subst, ◌∙◌, ℕ, ◌≤◌, ◌-◌}
-use Rattle.std.proofs.Common.{◌+◌, get_or, take}
-use Rattle.std.proofs.Common.{List, [], ◌∷◌, ◌++◌, append_assoc, append-nil, length, length-append}
-use Rattle.std.proofs.Common.{set}
-use Rattle.std.proofs.Common.{Option, None, Some, Bool, true, false, arith, IsTrue, position, ◌<◌}
-use Rattle.std.proofs.lemmas.Bool.{eqb-false, ltb-false}
-use Rattle.std.proofs.lemmas.List.{take_all, take_more}
+use Rattle.std.proofs.Common.{◌+◌, get_or, take, List, [], ◌∷◌, ◌++◌, append_assoc, append-nil}
+use Rattle.std.proofs.Common.{length, length-append, set, Option, None, Some, Bool, true, false}
+use Rattle.std.proofs.Common.{arith, IsTrue, position, ◌<◌}
+use Rattle.std.proofs.lemmas.{Bool.eqb-false, Bool.ltb-false, List.take_all, List.take_more}
 use Rattle.std.specs.Prelude.{not, ◌&&◌, is_some}
 use Rattle.answers.specs.Seen.{Seen}
 use Rattle.store.specs.declared.home.Home.{Home}
-use Rattle.polled.specs.Telling.{Tells}
+use Rattle.polled.specs.{Telling.Tells, declared.answers.Ready.Ready}
 use Rattle.guarded.specs.LockedConnections.{LockedConnectionOf, WantsRead, begun}
 use Rattle.multiplex.specs.Musts.{Accepts, Admits, Attends, IsMove, IsWatched, IsWoken, MakesPlace}
-use Rattle.multiplex.specs.Musts.{WaitsToRead}
-use Rattle.multiplex.specs.Noting.{awakes}
-use Rattle.multiplex.specs.Musts.{AsksUntil, Ends, Follows, GoesOn, Musts, NoneIsSilent, Stand}
-use Rattle.multiplex.specs.Musts.{AreEndsOf, IsEndOf, OffersLast, joined, left_at, wait_by}
+use Rattle.multiplex.specs.Musts.{WaitsToRead, AsksUntil, Ends, Follows, GoesOn, Musts}
+use Rattle.multiplex.specs.Musts.{NoneIsSilent, Stand, AreEndsOf, IsEndOf, OffersLast, joined}
+use Rattle.multiplex.specs.{Musts.left_at, Musts.wait_by, Silence.waited_for}
+use Rattle.multiplex.specs.{Noting.awakes, declared.table.ServingOptions.ServingOptions}
 use Rattle.polled.specs.Requests.{Asks, Request, Accepting, Closing, Waited, Watching}
-use Rattle.polled.specs.declared.answers.AcceptedPeer.TheVariants as accepted_is
-use Rattle.polled.specs.declared.answers.Ready.{Ready}
-use Rattle.multiplex.specs.declared.ends.ServingEnd.{ServingEnd}
-use Rattle.multiplex.specs.declared.ends.EndReason.{EndReason}
-use Rattle.multiplex.specs.declared.table.Guest.{Guest}
-use Rattle.multiplex.specs.declared.table.ClientTable.{ClientTable}
-use Rattle.multiplex.specs.declared.table.ServingOptions.{ServingOptions}
+use Rattle.multiplex.specs.declared.ends.{ServingEnd.ServingEnd, EndReason.EndReason}
+use Rattle.multiplex.specs.declared.table.{Guest.Guest, ClientTable.ClientTable}
 use Rattle.multiplex.specs.model.Asking.{AsksHosted, AsksMove, AsksSome, BeginsWithMove, ClosesAt}
-use Rattle.multiplex.specs.model.Asking.{IsWatchedIf, KeepsWoken, MayClose, WakesAll}
-use Rattle.multiplex.specs.Silence.{waited_for}
+use Rattle.multiplex.specs.model.Asking.{KeepsWoken, MayClose, WakesAll}
 use Rattle.multiplex.specs.model.Tables.{has_number, is_silent}
-use Rattle.multiplex.proofs.Looking.{none_of, some_of}
-use Rattle.multiplex.proofs.Placed.{all_as, all_both, nowhere}
-use Rattle.multiplex.proofs.Shutting.{all_but, at_place}
+use Rattle.multiplex.proofs.{Looking.none_of, Looking.some_of, Shutting.all_but, Visits.About}
+use Rattle.multiplex.proofs.{Placed.all_as, Placed.all_both, Placed.nowhere, Shutting.at_place}
 use Rattle.polled.proofs.Telling.{Tells-as, Tells-nil, Tells-trans}
-use Rattle.multiplex.proofs.Visits.{About}
+use Rattle.polled.specs.declared.answers.AcceptedPeer.TheVariants as accepted_is
 
 pub asks_none : {C : Type 0} (requests : C → Option (List Request)) (c : C)
     (P : List Request → Type 0) → P [] → Asks requests c c P
 asks_none requests c P p = ([], Tells-nil (requests c), p)
 
 pub asks_both : {C : Type 0} (requests : C → Option (List Request)) (c between later : C)
-    (P Q R : List Request → Type 0)
-    → ((xs ys : List Request) → P xs → Q ys → R (xs ++ ys))
+    (P Q R : List Request → Type 0) → ((xs ys : List Request) → P xs → Q ys → R (xs ++ ys))
     → Asks requests c between P → Asks requests between later Q → Asks requests c later R
 asks_both requests c between later P Q R both h k = (
   h.0 ++ k.0,
@@ -55,9 +45,8 @@ asks_as requests c later P Q same h = (h.0, h.1, same h.0 h.2)
 
 -- anything may follow
 pub asks_some : {C : Type 0} (requests : C → Option (List Request)) (c between later : C)
-    (more : List Request)
-    → Asks requests c between AsksSome → Tells (requests between) (requests later) more
-    → Asks requests c later AsksSome
+    (more : List Request) → Asks requests c between AsksSome
+    → Tells (requests between) (requests later) more → Asks requests c later AsksSome
 asks_some requests c between later more h k = (
   h.0 ++ more,
   Tells-trans (requests c) (requests between) (requests later) h.0 more h.1 k,
@@ -75,13 +64,11 @@ not_true b h is at = let n : false ≡ true = sym is ∙ h.1 at in absurd cc
 
 -- it waits for its turn, with all sent
 pub moves_none : {C : Type 0} (requests : C → Option (List Request)) (c : C) (k : ℕ)
-    (talk : LockedConnectionOf) (writes reads : Bool)
-    → (IsTrue writes ↔ (talk.output ≢ [])) → writes ≡ false
-    → (IsTrue reads ↔ WantsRead talk) → reads ≡ false
+    (talk : LockedConnectionOf) (writes reads : Bool) → (IsTrue writes ↔ (talk.output ≢ []))
+    → writes ≡ false → (IsTrue reads ↔ WantsRead talk) → reads ≡ false
     → Asks requests c c (AsksMove k talk)
 moves_none requests c k talk writes reads sends none hears deaf =
-    asks_none requests c (AsksMove k talk)
-    (inr (inr (
+    asks_none requests c (AsksMove k talk) (inr (inr (
       all_sent talk.output (not_true writes sends none),
       not_true reads hears deaf,
       refl,
@@ -92,9 +79,8 @@ pub begins_more : (k : ℕ) (c : LockedConnectionOf) (xs ys : List Request)
 begins_more k c xs ys h some = (xs, h, (ys, refl))
 
 pub begins_then : {C : Type 0} (requests : C → Option (List Request)) (c between later : C)
-    (k : ℕ) (talk : LockedConnectionOf)
-    → Asks requests c between (AsksMove k talk) → Asks requests between later AsksSome
-    → Asks requests c later (BeginsWithMove k talk)
+    (k : ℕ) (talk : LockedConnectionOf) → Asks requests c between (AsksMove k talk)
+    → Asks requests between later AsksSome → Asks requests c later (BeginsWithMove k talk)
 begins_then requests c between later k talk h j =
     asks_both requests c between later (AsksMove k talk) AsksSome (BeginsWithMove k talk)
     (begins_more k talk) h j
@@ -120,8 +106,7 @@ hosted_unwatched k old new w xs ys h = record {
 }
 
 pub hosted_watched : (k : ℕ) (old new : Guest) (xs ys : List Request)
-    → BeginsWithMove k old.talk xs → IsWatched k old new ys
-    → AsksHosted k old new None (xs ++ ys)
+    → BeginsWithMove k old.talk xs → IsWatched k old new ys → AsksHosted k old new None (xs ++ ys)
 hosted_watched k old new xs ys h is = record {
   first = h.0;
   move = h.1;
@@ -133,8 +118,7 @@ hosted_watched k old new xs ys h is = record {
 
 -- its connection is to be ended, before it is watched
 pub hosts_ended : {C : Type 0} (requests : C → Option (List Request)) (c later : C)
-    (k : ℕ) (old new : Guest) (w : EndReason)
-    → Asks requests c later (BeginsWithMove k old.talk)
+    (k : ℕ) (old new : Guest) (w : EndReason) → Asks requests c later (BeginsWithMove k old.talk)
     → Asks requests c later (AsksHosted k old new (Some w))
 hosts_ended requests c later k old new w h =
     asks_as requests c later (BeginsWithMove k old.talk) (AsksHosted k old new (Some w))
@@ -205,8 +189,7 @@ hosts_watched requests c between later k old new was waits writes ok h told befo
 
 -- nothing is asked where an Await was put off, and still is
 pub hosts_off : {C : Type 0} (requests : C → Option (List Request)) (c later : C) (k : ℕ)
-    (old new : Guest) (was : Bool)
-    → Asks requests c later (BeginsWithMove k old.talk)
+    (old new : Guest) (was : Bool) → Asks requests c later (BeginsWithMove k old.talk)
     → was ≡ is_some old.notes.until → true ≡ (was && is_some new.notes.until)
     → Asks requests c later (AsksHosted k old new None)
 hosts_off requests c later k old new was h before both =
@@ -242,14 +225,11 @@ moves_as : (j k : ℕ) (c : LockedConnectionOf) (asked : List Request) → j ≡
 moves_as j k c asked is h = subst (λ n. IsMove n c asked) is h
 
 pub attends_stay : (k place : ℕ) (table : ClientTable) (new : List Guest) (old later : Guest)
-    (before after : List Guest) (asked : List Request)
-    → About table place old later before after → old.number ≡ k
-    → new ≡ set table.guests.items place later
-    → AsksHosted old.number old later None asked
-    → Attends k table.guests.items new asked
+    (before after : List Guest) (asked : List Request) → About table place old later before after
+    → old.number ≡ k → new ≡ set table.guests.items place later
+    → AsksHosted old.number old later None asked → Attends k table.guests.items new asked
 attends_stay k place table new old later before after asked split number is h =
-    inr
-    (record {
+    inr (record {
       before = before;
       after = after;
       one = old;
@@ -260,8 +240,7 @@ attends_stay k place table new old later before after asked split number is h =
       more = h.more;
       last = h.last;
       end =
-          inl
-          (record {
+          inl (record {
             later = later;
             stays = is ∙ split.put;
             watched = subst (λ n. IsWatched n old later h.last) number h.watched;
@@ -272,18 +251,14 @@ attends_stay k place table new old later before after asked split number is h =
 pub attends_leave : (k place : ℕ) (w : EndReason) (table mid : ClientTable) (new : List Guest)
     (old later : Guest) (before after : List Guest) (xs ys : List Request)
     → About table place old later before after → old.number ≡ k → later.number ≡ old.number
-    → mid.guests.items ≡ set table.guests.items place later
-    → new ≡ before ++ after
-    → AsksHosted old.number old later (Some w) xs
-    → ClosesAt place mid.guests.items ys
+    → mid.guests.items ≡ set table.guests.items place later → new ≡ before ++ after
+    → AsksHosted old.number old later (Some w) xs → ClosesAt place mid.guests.items ys
     → Attends k table.guests.items new (xs ++ ys)
 attends_leave k place w table mid new old later before after xs ys split number same is left h
     shut =
-    let gone : shut.gone ≡ later =
-    sym (shut.at later)
+    let gone : shut.gone ≡ later = sym (shut.at later)
     ∙ at_place mid.guests.items before later after place later split.front (is ∙ split.put) in
-    let closed : shut.gone.number ≡ k =
-    ap (λ (g : Guest). g.number) gone ∙ same ∙ number in
+    let closed : shut.gone.number ≡ k = ap (λ (g : Guest). g.number) gone ∙ same ∙ number in
     inr
     (record {
       before = before;
@@ -297,8 +272,7 @@ attends_leave k place w table mid new old later before after xs ys split number 
       last = Closing k ∷ [];
       end = inr (record { leaves = left; closed = refl });
       all =
-          ap (λ (z : List Request). z ++ ys) h.all
-          ∙ append_assoc h.first (h.more ++ h.last) ys
+          ap (λ (z : List Request). z ++ ys) h.all ∙ append_assoc h.first (h.more ++ h.last) ys
           ∙ ap (λ (z : List Request). h.first ++ ((h.more ++ h.last) ++ z))
           (shut.all ∙ ap (λ n. Closing n ∷ []) closed);
     })
@@ -322,17 +296,13 @@ closes_one count asked full (inl h) = absurd (omega (arith, full, h.0))
 closes_one count asked full (inr h) = h
 
 pub admits_crowded : (t : ServingOptions) (over : Option ServingEnd) (old mid : ClientTable)
-    (xs ys : List Request)
-    → 512 ≤ length old.guests.items
-    → mid.next ≡ old.next
+    (xs ys : List Request) → 512 ≤ length old.guests.items → mid.next ≡ old.next
     → length mid.guests.items ≡ length old.guests.items - 1
     → MakesPlace 0 (length old.guests.items) accepted_is.Full xs
-    → Accepts mid.next (length mid.guests.items) ys
-    → Admits t over old (xs ++ ys)
+    → Accepts mid.next (length mid.guests.items) ys → Admits t over old (xs ++ ys)
 admits_crowded t over old mid xs ys full next fewer h k =
     let one = closes_one (length old.guests.items) xs full h in
-    inr
-    (inr (
+    inr (inr (
       full,
       (
         one.0,
@@ -369,8 +339,7 @@ woken_more home x time xs ys g h awake =
     )
 
 pub all_woken_more : (home : Home) (x : Seen) (time : ℕ) (guests : List Guest)
-    (xs ys : List Request)
-    → WakesAll home x time guests xs → WakesAll home x time guests (xs ++ ys)
+    (xs ys : List Request) → WakesAll home x time guests xs → WakesAll home x time guests (xs ++ ys)
 all_woken_more home x time guests xs ys h =
     all_as (IsWoken home x time xs) (IsWoken home x time (xs ++ ys)) guests
     (λ g at. woken_more home x time xs ys g at) h
@@ -427,9 +396,8 @@ wakes_all requests c later home x time guests i whole h =
 pub keeps_woken : (guests before : List Guest) (gone : Guest) (after left : List Guest)
     → guests ≡ before ++ gone ∷ after → left ≡ before ++ after → KeepsWoken guests left
 keeps_woken guests before gone after left found is home x time asked h =
-    subst (λ z. WakesAll home x time z asked) (sym is)
-    (all_but (IsWoken home x time asked) before gone after
-    (subst (λ z. WakesAll home x time z asked) found h))
+    subst (λ z. WakesAll home x time z asked) (sym is) (all_but (IsWoken home x time asked) before
+    gone after (subst (λ z. WakesAll home x time z asked) found h))
 
 -- ---- all are ended
 
@@ -456,18 +424,15 @@ ends_none requests c first = ([], Tells-nil (requests c), λ ends h. h)
 
 -- one more was ended, of those that are still there the last one
 pub ends_more : {C : Type 0} (requests : C → Option (List Request)) (c between later : C)
-    (first old new : List Guest) (gone : Guest)
-    → old ≡ new ++ gone ∷ []
-    → Asks requests c between (EndsSome first old)
-    → Asks requests between later (IsEndOf gone)
+    (first old new : List Guest) (gone : Guest) → old ≡ new ++ gone ∷ []
+    → Asks requests c between (EndsSome first old) → Asks requests between later (IsEndOf gone)
     → Asks requests c later (EndsSome first new)
 ends_more requests c between later first old new gone is h k = (
   h.0 ++ k.0,
   Tells-trans (requests c) (requests between) (requests later) h.0 k.0 h.1 k.1,
   λ ends ended.
       subst (λ (z : List Request). AreEndsOf first z) (sym (append_assoc h.0 k.0 ends))
-      (h.2 (k.0 ++ ends)
-      (subst (λ (z : List Guest). AreEndsOf z (k.0 ++ ends)) (sym is)
+      (h.2 (k.0 ++ ends) (subst (λ (z : List Guest). AreEndsOf z (k.0 ++ ends)) (sym is)
       (ends_last new gone ends k.0 ended k.2))),
 )
 
@@ -484,8 +449,7 @@ ends_all requests c later first old none h = (
 -- what is offered, and then ended
 pub offers_none : {C : Type 0} (requests : C → Option (List Request)) (c : C) (k : ℕ)
     (talk : LockedConnectionOf) (writes : Bool) → (IsTrue writes ↔ (talk.output ≢ []))
-    → writes ≡ false
-    → Asks requests c c (OffersLast k talk.output)
+    → writes ≡ false → Asks requests c c (OffersLast k talk.output)
 offers_none requests c k talk writes sends none =
     asks_none requests c (OffersLast k talk.output)
     (inr (all_sent talk.output (not_true writes sends none), refl))
@@ -510,10 +474,8 @@ none_left (one ∷ guests) none = let some : false ≡ true = none (omega arith)
 -- it was waited as long as may be, and then more was asked
 pub musts_ask : {C L : Type 0} (requests : C → Option (List Request))
     (due : L → ℕ → Option ℕ → Type 0) (kept : L → Option (List ℕ)) (t : ServingOptions)
-    (home : Home)
-    (x : Seen) (over : Option ServingEnd) (old new : ClientTable) (links after : L)
-    (c between later : C)
-    (wait : ℕ) (ready : Ready) (more : List Request)
+    (home : Home) (x : Seen) (over : Option ServingEnd) (old new : ClientTable) (links after : L)
+    (c between later : C) (wait : ℕ) (ready : Ready) (more : List Request)
     → ((left : Option ℕ) × due links old.time left
     × (wait ≡ wait_by left (left_at old.own.ticker old.time)))
     → Tells (requests c) (requests between) (Waited wait ready ∷ [])
@@ -539,8 +501,7 @@ musts_ask requests due kept t home x over old new links after c between later wa
 
 pub goes_more : {L : Type 0} (due : L → ℕ → Option ℕ → Type 0) (kept : L → Option (List ℕ))
     (t : ServingOptions) (home : Home) (a m b : Stand L) (steps : List (List Request))
-    (asked : List Request)
-    → GoesOn due kept t home a steps m
+    (asked : List Request) → GoesOn due kept t home a steps m
     → Musts due kept t home b.seen None m.table b.table m.links b.links asked
     → GoesOn due kept t home a (steps ++ asked ∷ []) b
 goes_more {L} due kept t home a m b [] asked h k = (
@@ -562,24 +523,15 @@ joined_more (one ∷ steps) asked =
 -- what was asked in this many steps
 abbrev pub AsksSteps : {C L : Type 0} → (C → Option (List Request))
     → (L → ℕ → Option ℕ → Type 0) → (L → Option (List ℕ)) → ServingOptions → Home → ℕ → Stand L
-    → Stand L
-    → C → C → Type 0
+    → Stand L → C → C → Type 0
 AsksSteps requests due kept t home count a b c later =
     (steps : List (List Request)) × (length steps ≡ count) × GoesOn due kept t home a steps b
     × Tells (requests c) (requests later) (joined steps)
 
-pub steps_none : {C L : Type 0} (requests : C → Option (List Request))
-    (due : L → ℕ → Option ℕ → Type 0) (kept : L → Option (List ℕ)) (t : ServingOptions)
-    (home : Home)
-    (a : Stand L) (c : C) → AsksSteps requests due kept t home 0 a a c c
-steps_none requests due kept t home a c = ([], refl, refl, Tells-nil (requests c))
-
 pub steps_more : {C L : Type 0} (requests : C → Option (List Request))
     (due : L → ℕ → Option ℕ → Type 0) (kept : L → Option (List ℕ)) (t : ServingOptions)
-    (home : Home)
-    (count : ℕ) (a m b : Stand L) (c between later : C)
-    → AsksSteps requests due kept t home count a m c between
-    → Asks requests between later
+    (home : Home) (count : ℕ) (a m b : Stand L) (c between later : C)
+    → AsksSteps requests due kept t home count a m c between → Asks requests between later
     (Musts due kept t home b.seen None m.table b.table m.links b.links)
     → AsksSteps requests due kept t home (count + 1) a b c later
 steps_more requests due kept t home count a m b c between later h k = (
@@ -594,10 +546,8 @@ steps_more requests due kept t home count a m b c between later h k = (
 -- serving is over without a further step
 pub until_here : {C L : Type 0} (requests : C → Option (List Request))
     (due : L → ℕ → Option ℕ → Type 0) (kept : L → Option (List ℕ)) (t : ServingOptions)
-    (home : Home)
-    (over : ServingEnd) (count : ℕ) (a m : Stand L) (c later : C)
-    → AsksSteps requests due kept t home count a m c later
-    → Ends due kept t home over count m m []
+    (home : Home) (over : ServingEnd) (count : ℕ) (a m : Stand L) (c later : C)
+    → AsksSteps requests due kept t home count a m c later → Ends due kept t home over count m m []
     → Asks requests c later (AsksUntil due kept t home over a m)
 until_here requests due kept t home over count a m c later h ends = (
   joined h.0,
@@ -615,10 +565,8 @@ until_here requests due kept t home over count a m c later h ends = (
 -- or by one
 pub until_step : {C L : Type 0} (requests : C → Option (List Request))
     (due : L → ℕ → Option ℕ → Type 0) (kept : L → Option (List ℕ)) (t : ServingOptions)
-    (home : Home)
-    (over : ServingEnd) (count : ℕ) (a m b : Stand L) (c between later : C)
-    → AsksSteps requests due kept t home count a m c between
-    → Asks requests between later
+    (home : Home) (over : ServingEnd) (count : ℕ) (a m b : Stand L) (c between later : C)
+    → AsksSteps requests due kept t home count a m c between → Asks requests between later
     (Musts due kept t home b.seen (Some over) m.table b.table m.links b.links)
     → Asks requests c later (AsksUntil due kept t home over a b)
 until_step requests due kept t home over count a m b c between later h k = (

@@ -1,15 +1,13 @@
 -- What holds of each client behind its door, as more is told.
-use Rattle.std.proofs.Common.{◌≡◌, refl, sym, ap, subst, ◌∙◌, ℕ, List, [], ◌∷◌, ◌++◌}
-use Rattle.std.proofs.Common.{append-nil, Option, None, Some, Bool, true, false, cond, eqb}
+use Rattle.std.proofs.Common.{◌≡◌, refl, sym, ap, subst, ◌∙◌, ℕ, List, [], ◌∷◌, ◌++◌, append-nil}
+use Rattle.std.proofs.Common.{Option, None, Some, Bool, true, false, cond, eqb}
 use Rattle.std.proofs.lemmas.Bool.{eqb-false, eqb-true}
 use Rattle.connections.specs.Connections.{Served, begun_of, served_of}
 use Rattle.connections.proofs.Interleaving.{HoldsSome, at_first, begun_both}
 use Rattle.guarded.specs.LockedConnections.{LockedConnectionOf, fresh_locked_connection}
-use Rattle.guarded.proofs.Guarded.{stream_of}
-use Rattle.guarded.proofs.Keeping.{Keeps, keeps_as, keeps_first}
+use Rattle.guarded.proofs.{Guarded.stream_of, Keeping.Keeps, Keeping.keeps_as, Keeping.keeps_first}
 use Rattle.sealed.specs.declared.callers.Access.{Access}
-use Rattle.serving.specs.Connection.{Begun}
-use Rattle.serving.specs.Turns.{Talk, new_talk}
+use Rattle.serving.specs.{Connection.Begun, Turns.Talk, Turns.new_talk}
 use Rattle.store.specs.declared.home.Home.{Home}
 use Rattle.wire.specs.declared.values.Version.{Version}
 use Rattle.multiplex.specs.EachClient.{IsServedClient, came_with, gave, took}
@@ -20,8 +18,7 @@ use Rattle.multiplex.proofs.Seating.{IsFresh, came_now, other_came, put}
 
 -- what the stream of a client keeps, where it came, and nothing where it did not
 abbrev pub KeptBy : Option (List ℕ) → Access → LockedConnectionOf → List ℕ → List ℕ → List ℕ
-    → List ℕ
-    → List Begun → Type 0
+    → List ℕ → List Begun → Type 0
 KeptBy None doors g came handed answers sent begun =
     (came ≡ []) × (handed ≡ []) × (answers ≡ []) × (sent ≡ []) × (begun ≡ [])
 KeptBy (Some server) doors g came handed answers sent begun =
@@ -33,12 +30,11 @@ pub kept_as : (doors : Access) (g : LockedConnectionOf) (o o1 : Option (List ℕ
     → begun ≡ begun1 → KeptBy o doors g came handed answers sent begun
     → KeptBy o1 doors g came1 handed1 answers1 sent1 begun1
 kept_as doors g o o1 came came1 handed handed1 answers answers1 sent sent1 begun begun1 eo ec eh ea
-    es eb k =
-    subst (λ z. KeptBy z doors g came1 handed1 answers1 sent1 begun1) eo
-    (subst (λ z. KeptBy o doors g z handed1 answers1 sent1 begun1) ec
-    (subst (λ z. KeptBy o doors g came z answers1 sent1 begun1) eh
-    (subst (λ z. KeptBy o doors g came handed z sent1 begun1) ea
-    (subst (λ z. KeptBy o doors g came handed answers z begun1) es
+    es eb k = subst (λ z. KeptBy z doors g came1 handed1 answers1 sent1 begun1) eo
+    (subst (λ z. KeptBy o doors g z handed1 answers1 sent1 begun1) ec (subst
+    (λ z. KeptBy o doors g came z answers1 sent1 begun1) eh (subst
+    (λ z. KeptBy o doors g came handed z sent1 begun1) ea (subst
+    (λ z. KeptBy o doors g came handed answers z begun1) es
     (subst (λ z. KeptBy o doors g came handed answers sent z) eb k)))))
 
 -- a client of which all this was told, and these frames were begun, of all clients
@@ -57,8 +53,7 @@ EachBehind home doors told frames guards = (k : ℕ) → Behind home doors k tol
 -- ---- before all
 
 pub nothing_behind : (home : Home) (wire : Version) (doors : Access) (g : LockedConnectionOf)
-    (k : ℕ)
-    → g.talk ≡ new_talk home wire → Behind home doors k [] [] g
+    (k : ℕ) → g.talk ≡ new_talk home wire → Behind home doors k [] [] g
 nothing_behind home wire doors g k is = record {
   handed = [];
   answers = [];
@@ -83,8 +78,7 @@ pub more_behind : (home : Home) (doors : Access) (k : ℕ) (told js : List Happe
     (begun : List Begun) (h : Behind home doors k told frames g)
     → Gives k js came sent → begun_of (served_of k fs) ≡ begun
     → HoldsSome home (h.handed ++ more) (h.answers ++ out) (served_of k frames ++ served_of k fs)
-    new.talk
-    → KeptBy (came_with k told) doors new (gave k told ++ came) (h.handed ++ more)
+    new.talk → KeptBy (came_with k told) doors new (gave k told ++ came) (h.handed ++ more)
     (h.answers ++ out) (took k told ++ sent) (begun_of (served_of k frames) ++ begun)
     → Behind home doors k (told ++ js) (frames ++ fs) new
 more_behind home doors k told js frames fs g new came sent more out begun h gives begins holds
@@ -114,14 +108,12 @@ pub still_behind : (home : Home) (doors : Access) (k : ℕ) (told js : List Happ
 still_behind home doors k told js frames fs g gives none h =
     more_behind home doors k told js frames fs g g [] [] [] [] [] h gives (ap begun_of none)
     (subst (λ z. HoldsSome home z (h.answers ++ []) (served_of k frames ++ served_of k fs) g.talk)
-    (sym (append-nil h.handed))
-    (subst (λ z. HoldsSome home h.handed z (served_of k frames ++ served_of k fs) g.talk)
-    (sym (append-nil h.answers))
-    (subst (λ z. HoldsSome home h.handed h.answers z g.talk)
+    (sym (append-nil h.handed)) (subst
+    (λ z. HoldsSome home h.handed z (served_of k frames ++ served_of k fs) g.talk)
+    (sym (append-nil h.answers)) (subst (λ z. HoldsSome home h.handed h.answers z g.talk)
     (sym (ap (λ z. served_of k frames ++ z) none ∙ append-nil (served_of k frames))) h.holds)))
-    (kept_as doors g (came_with k told) (came_with k told) (gave k told)
-    (gave k told ++ []) h.handed (h.handed ++ []) h.answers (h.answers ++ []) (took k told)
-    (took k told ++ [])
+    (kept_as doors g (came_with k told) (came_with k told) (gave k told) (gave k told ++ [])
+    h.handed (h.handed ++ []) h.answers (h.answers ++ []) (took k told) (took k told ++ [])
     (begun_of (served_of k frames)) (begun_of (served_of k frames) ++ []) refl
     (sym (append-nil (gave k told))) (sym (append-nil h.handed)) (sym (append-nil h.answers))
     (sym (append-nil (took k told))) (sym (append-nil (begun_of (served_of k frames)))) h.kept)
@@ -131,8 +123,7 @@ still_behind home doors k told js frames fs g gives none h =
 -- nothing came of one that did not come
 kept_first : (home : Home) (wire : Version) (doors : Access) (random : List ℕ)
     (o : Option (List ℕ)) (g : LockedConnectionOf) (came handed answers sent : List ℕ)
-    (begun : List Begun)
-    → o ≡ None → KeptBy o doors g came handed answers sent begun
+    (begun : List Begun) → o ≡ None → KeptBy o doors g came handed answers sent begun
     → Keeps doors random (fresh_locked_connection doors random home wire) came handed answers sent
     begun
 kept_first home wire doors random o g came handed answers sent begun none kept =
@@ -152,12 +143,10 @@ first_behind home wire doors random k told js frames guards fresh gives h =
     let now = told ++ Came k random ∷ js in
     let same : served_of k frames ≡ served_of k (frames ++ []) =
     ap (λ z. served_of k z) (sym (append-nil frames)) in
-    let came : gave k told ≡ gave k now =
-    sym (gave-both k told (Came k random ∷ js) ∙ ap (λ z. gave k told ++ z) gives.gave
-    ∙ append-nil (gave k told)) in
-    let sent : took k told ≡ took k now =
-    sym (took-both k told (Came k random ∷ js) ∙ ap (λ z. took k told ++ z) gives.took
-    ∙ append-nil (took k told)) in
+    let came : gave k told ≡ gave k now = sym (gave-both k told (Came k random ∷ js)
+    ∙ ap (λ z. gave k told ++ z) gives.gave ∙ append-nil (gave k told)) in
+    let sent : took k told ≡ took k now = sym (took-both k told (Came k random ∷ js)
+    ∙ ap (λ z. took k told ++ z) gives.took ∙ append-nil (took k told)) in
     record {
       handed = h.handed;
       answers = h.answers;
@@ -189,12 +178,10 @@ came_behind home wire doors random next told js frames guards fresh gives each k
     pick true is =
         let same = eqb-true next k is in
         subst (λ n. Behind home doors n (told ++ Came next random ∷ js) (frames ++ [])
-        (fresh_locked_connection doors random home wire)) same
-        (first_behind home wire doors random next told js frames guards fresh (gives next)
-        (each next))
+        (fresh_locked_connection doors random home wire)) same (first_behind home wire doors random
+        next told js frames guards fresh (gives next) (each next))
     pick false is =
-        still_behind home doors k told (Came next random ∷ js) frames [] (guards k)
-        (record {
+        still_behind home doors k told (Came next random ∷ js) frames [] (guards k) (record {
           gave = (gives k).gave;
           took = (gives k).took;
           earlier = other_came k next random js (eqb-false next k is) (gives k).earlier;

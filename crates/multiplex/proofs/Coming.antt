@@ -3,12 +3,10 @@ use Rattle.std.proofs.Common.{sym, subst, ◌≤◌, ℕ, ◌∷◌, List, Optio
 use Rattle.store.specs.declared.home.Home.{Home}
 use Rattle.serving.specs.Making.{Way}
 use Rattle.polled.specs.Happenings.{Happened}
-use Rattle.multiplex.specs.Passing.{Change, Changed, Changes, Clock, Comes, IsServedEach, Lobby}
-use Rattle.multiplex.specs.Passing.{NoSocket, Pass, Room, Shut, Step, Stops, Stray, Takes, Ticked}
-use Rattle.multiplex.specs.Passing.{Settles}
-use Rattle.multiplex.specs.Passing.{TakesLast, TurnedAway, Unwatched, Visit}
-use Rattle.multiplex.specs.declared.ends.ServingsOutcome.{ServingsOutcome}
-use Rattle.multiplex.specs.declared.table.ServingOptions.{ServingOptions}
+use Rattle.multiplex.specs.Passing.{Change, Changed, Changes, Comes, IsServedEach, Lobby, NoSocket}
+use Rattle.multiplex.specs.Passing.{Pass, Room, Shut, Step, Stops, Stray, Takes, TakesLast, Visit}
+use Rattle.multiplex.specs.{Passing.TurnedAway, declared.ends.ServingsOutcome.ServingsOutcome}
+use Rattle.multiplex.specs.{Passing.Unwatched, declared.table.ServingOptions.ServingOptions}
 
 abbrev HasFew : ServingOptions → Lobby → Type 0
 HasFew t l = l.next ≤ t.most
@@ -29,14 +27,11 @@ few_changed home t (Shut k w) a b h few = subst (λ l. HasFew t l) (sym h.3.left
 few_changed home t (Stops e) a b h few = subst (λ l. HasFew t l) (sym h.2) few
 
 few_taken : {V : Type 0} {way : Way V} (home : Home) (t : ServingOptions) (s : Step)
-    (a b : Room way)
-    → Takes home t s a b → HasFew t a.lobby → HasFew t b.lobby
+    (a b : Room way) → Takes home t s a b → HasFew t a.lobby → HasFew t b.lobby
 few_taken home t (Changed c) a b h few = few_changed home t c a.lobby b.lobby h.0 few
-few_taken home t (Clock now) a b h few = subst (λ l. HasFew t l) (sym h.left) few
-few_taken home t (Ticked now starved) a b h few = subst (λ l. HasFew t l) (sym h.left) few
 few_taken home t (Visit k turns fate) a b h few =
     subst (λ l. HasFew t l) (sym h.4.left) few
-few_taken home t (Settles ok) a b h few = subst (λ l. HasFew t l) (sym h.left) few
+few_taken home t _ a b h few = subst (λ l. HasFew t l) (sym h.left) few
 
 few_passed : {V : Type 0} {way : Way V} (home : Home) (t : ServingOptions) (steps : List Step)
     (a b : Room way) → Pass home t a steps b → HasFew t a.lobby → HasFew t b.lobby
@@ -50,5 +45,4 @@ pub few_come : {V : Type 0} {way : Way V} (served : ServingsOutcome) (home : Hom
     → IsServedEach served home t period a b before after steps → served.connections ≤ t.most
 few_come served home t period a b before after steps h =
     subst (λ n. n ≤ t.most) (sym h.counted)
-    (few_passed home t steps a b h.pass
-    (subst (λ l. HasFew t l) (sym h.first) (omega arith)))
+    (few_passed home t steps a b h.pass (subst (λ l. HasFew t l) (sym h.first) (omega arith)))

@@ -1,52 +1,40 @@
 -- The steps of many clients are turns of many connections, each behind its door.
-use Rattle.std.proofs.Common.{◌≡◌, ◌≢◌, refl, sym, ap, subst, ◌∙◌, ℕ, ◌+◌}
-use Rattle.std.proofs.Common.{List, [], ◌∷◌, ◌++◌, append-nil, append_assoc, Option, None}
-use Rattle.std.proofs.Common.{Some, arith, Bool, true, false, cond, eqb}
-use Rattle.std.proofs.lemmas.Bool.{eqb-false, eqb-true}
-use Rattle.std.specs.Prelude.{IsSome}
-use Rattle.answers.specs.declared.desk.Desk.{Ghosts as DeskOf}
-use Rattle.answers.specs.Seen.{Seen}
+use Rattle.std.proofs.Common.{◌≡◌, ◌≢◌, refl, sym, ap, subst, ◌∙◌, ℕ, ◌+◌, List, [], ◌∷◌, ◌++◌}
+use Rattle.std.proofs.Common.{append-nil, append_assoc, Option, None, Some, arith, Bool, true}
+use Rattle.std.proofs.Common.{false, cond, eqb}
+use Rattle.std.{proofs.lemmas.Bool.eqb-false, proofs.lemmas.Bool.eqb-true, specs.Prelude.IsSome}
+use Rattle.answers.specs.{declared.desk.Desk.Ghosts as DeskOf, Seen.Seen}
 use Rattle.connections.specs.Connections.{AreServedInTurn, Connections, FollowEach, MakesSome}
 use Rattle.connections.specs.Connections.{Point, Served, TurnOf, begun_of, place_of, served_of}
 use Rattle.connections.specs.Connections.{turns_of}
 use Rattle.connections.proofs.Interleaving.{HoldsSome, goes_on, makes_all}
 use Rattle.guarded.specs.LockedConnections.{LockedConnectionOf, fresh_locked_connection}
-use Rattle.guarded.specs.LockedTurns.{within}
-use Rattle.guarded.specs.LockedTurns as GuardTurns
+use Rattle.guarded.{specs.LockedTurns.within, proofs.Keeping.Keeps}
 use Rattle.guarded.proofs.Holding.{GoesAll, turns_go}
-use Rattle.guarded.proofs.Keeping.{Keeps}
 use Rattle.sealed.specs.declared.callers.Access.{Access}
-use Rattle.serving.specs.Connection.{Begun, serve_frame}
-use Rattle.serving.specs.Making.{Outside, Way}
-use Rattle.serving.specs.OwnTicks.{tick_begun}
-use Rattle.serving.specs.Turns.{Talk}
+use Rattle.serving.specs.{Connection.Begun, Connection.serve_frame, Making.Outside, Making.Way}
+use Rattle.serving.specs.{OwnTicks.tick_begun, Turns.Talk, TurnLaw.Took as TookOf}
 use Rattle.serving.specs.TurnLaw.{Follow, Place, Turn, Turns, begun_in, handed_out, received}
-use Rattle.serving.specs.TurnLaw.{Took as TookOf}
 use Rattle.serving.proofs.Makings.{Makes-nil, Makes-trans}
 use Rattle.store.specs.declared.home.Home.{Home}
-use Rattle.multiplex.specs.EachClient.{AreDoneInTurn, Deed, EachClientIsServed, Frame, OwnTick}
-use Rattle.multiplex.specs.EachClient.{MakesBetween, Settling}
-use Rattle.multiplex.specs.EachClient.{came_with, frames_in, gave, own_ticks, point_in, sides_at}
-use Rattle.multiplex.specs.EachClient.{ticks_of, took}
+use Rattle.multiplex.specs.EachClient.{AreDoneInTurn, Frame, own_ticks, sides_at, ticks_of, took}
+use Rattle.multiplex.specs.EachClient.{Deed, MakesBetween, Settling, came_with, frames_in, gave}
+use Rattle.multiplex.specs.{EachClient.EachClientIsServed, Passing.told_why, Passing.with_node}
+use Rattle.multiplex.{specs.EachClient.OwnTick, specs.Noting.fresh_notes, proofs.Placed.all_back}
 use Rattle.polled.specs.Happenings.{Closed, Happened, Round, Took}
-use Rattle.multiplex.specs.Noting.{fresh_notes}
 use Rattle.multiplex.specs.Passing.{Change, Changed, Changes, Clock, Comes, Lobby, NoSocket, Pass}
 use Rattle.multiplex.specs.Passing.{Room, Shut, Step, Stops, Stray, Takes, TakesLast, Ticked}
-use Rattle.multiplex.specs.Passing.{Settles}
-use Rattle.multiplex.specs.Passing.{TicksBy, TurnedAway, Unwatched, Visit, Visits, guest, lobby}
-use Rattle.multiplex.specs.Passing.{staying}
-use Rattle.multiplex.specs.Passing.{told, told_all, told_change, told_end, told_why, with_node}
-use Rattle.multiplex.specs.declared.ends.ServingEnd.{ServingEnd}
-use Rattle.multiplex.specs.declared.ends.ServingEnd.TheVariants as over
-use Rattle.multiplex.specs.declared.ends.EndReason.{EndReason}
-use Rattle.multiplex.specs.declared.table.Guest.{Guest}
-use Rattle.multiplex.specs.declared.table.ServingOptions.{ServingOptions}
+use Rattle.multiplex.specs.Passing.{Settles, TicksBy, TurnedAway, Unwatched, Visit, Visits, guest}
+use Rattle.multiplex.specs.Passing.{lobby, point_in, staying, told, told_all, told_change, told_end}
+use Rattle.multiplex.specs.declared.ends.{ServingEnd.ServingEnd, EndReason.EndReason}
+use Rattle.multiplex.specs.declared.table.{Guest.Guest, ServingOptions.ServingOptions}
 use Rattle.multiplex.proofs.Behind.{Behind, EachBehind, KeptBy, came_behind, client_of, kept_as}
 use Rattle.multiplex.proofs.Behind.{more_behind, nothing_behind, still_behind}
 use Rattle.multiplex.proofs.Giving.{Gives, end_gives, frames-both, turns_give}
-use Rattle.multiplex.proofs.Placed.{all_back}
 use Rattle.multiplex.proofs.Seating.{Hosted, Stands, StandsIn, arrives, leaves, one_more, put}
 use Rattle.multiplex.proofs.Seating.{put_other, put_same, stands_told, stays}
+use Rattle.guarded.specs.LockedTurns as GuardTurns
+use Rattle.multiplex.specs.declared.ends.ServingEnd.TheVariants as over
 
 -- ---- one connection of many has its turns
 
@@ -77,8 +65,7 @@ conns talks seen outside = record { talks = talks; seen = seen; outside = outsid
 
 record Went {V : Type 0} {way : Way V} (k : ℕ) (talks : ℕ → Talk) (p q : Place way)
     (turns : List Turn) (new : ℕ → Talk) : Type 0 where
-  follow : FollowEach (conns talks p.seen p.outside) (numbered k turns)
-      (conns new q.seen q.outside)
+  follow : FollowEach (conns talks p.seen p.outside) (numbered k turns) (conns new q.seen q.outside)
   at : new k ≡ q.talk
   rest : (j : ℕ) → j ≢ k → new j ≡ talks j
 
@@ -98,10 +85,8 @@ went {V} {way} k talks p q (t ∷ ts) at h =
           conns mid m.seen m.outside,
           record {
             turn =
-                subst
-                (λ z. Turns t (record { talk = z; seen = p.seen; outside = p.outside })
-                (place_of (conns mid m.seen m.outside) k)) (sym at)
-                (subst
+                subst (λ z. Turns t (record { talk = z; seen = p.seen; outside = p.outside })
+                (place_of (conns mid m.seen m.outside) k)) (sym at) (subst
                 (λ z. Turns t p (record { talk = z; seen = m.seen; outside = m.outside }))
                 (sym (put_same k m.talk talks)) h.1);
             others = put_other k m.talk talks;
@@ -171,8 +156,7 @@ kept_own : {V : Type 0} {way : Way V} (doors : Access) (server : List ℕ) (o : 
     (answers ++ handed_out inner) (sent ++ handed_out turns) (begun ++ begun_in turns)
 kept_own doors server o g turns inner p q came handed answers sent begun is at goes kept =
     let was = subst (λ z. KeptBy z doors g came handed answers sent begun) is kept in
-    subst
-    (λ z. KeptBy z doors q.guard (came ++ received turns) (handed ++ received inner)
+    subst (λ z. KeptBy z doors q.guard (came ++ received turns) (handed ++ received inner)
     (answers ++ handed_out inner) (sent ++ handed_out turns) (begun ++ begun_in turns)) (sym is)
     (goes.keeps came handed answers sent begun
     (subst (λ z. Keeps doors server z came handed answers sent begun) at was))
@@ -193,8 +177,7 @@ visited : {V : Type 0} {way : Way V} (home : Home) (doors : Access) (server : Li
     (turns inner : List Turn) (p q : GuardTurns.Place way) (new : ℕ → Talk)
     (each : EachBehind home doors before frames guards)
     → came_with k before ≡ Some server → guards k ≡ p.guard → new k ≡ q.guard.talk
-    → ((j : ℕ) → j ≢ k → new j ≡ (guards j).talk)
-    → ((j : ℕ) (own : Bool) → eqb k j ≡ own
+    → ((j : ℕ) → j ≢ k → new j ≡ (guards j).talk) → ((j : ℕ) (own : Bool) → eqb k j ≡ own
     → Gives j js (cond own (received turns) []) (cond own (handed_out turns) []))
     → GoesAll doors server turns p q inner
     → ((j : ℕ) → HoldsSome home ((each j).handed ++ received (turns_of j (numbered k inner)))
@@ -234,29 +217,47 @@ visited home doors server before js frames fs guards k turns inner p q new each 
         (kept_other doors (came_with j before) (guards j) (gave j before) h.handed h.answers
         (took j before) (begun_of (served_of j frames)) h.kept)
 
-abbrev as_deeds : List Served → List Deed
-as_deeds [] = []
-as_deeds (f ∷ fs) = Frame f ∷ as_deeds fs
+-- frames of clients, or, where so, of the desk to itself
+abbrev as_deeds : Bool → List Served → List Deed
+as_deeds own [] = []
+as_deeds own (f ∷ fs) = Frame own f ∷ as_deeds own fs
 
-frames_of_deeds : (fs : List Served) → frames_in (as_deeds fs) ≡ fs
+frames_of_deeds : (fs : List Served) → frames_in (as_deeds false fs) ≡ fs
 frames_of_deeds [] = refl
 frames_of_deeds (f ∷ fs) = ap (λ z. f ∷ z) (frames_of_deeds fs)
 
-no_own_ticks : (fs : List Served) → own_ticks (as_deeds fs) ≡ []
-no_own_ticks [] = refl
-no_own_ticks (f ∷ fs) = no_own_ticks fs
+none_of_clients : (fs : List Served) → frames_in (as_deeds true fs) ≡ []
+none_of_clients [] = refl
+none_of_clients (f ∷ fs) = none_of_clients fs
 
-done_frames : {V : Type 0} {way : Way V} (home : Home) (a b : Point way) (fs : List Served)
-    → AreServedInTurn home a fs b → AreDoneInTurn home a (as_deeds fs) b
-done_frames home a b [] h = h
-done_frames home a b (f ∷ fs) h =
-    (h.0, (h.0, h.1, refl), done_frames home h.0 b fs h.2)
+no_own_ticks : (own : Bool) (fs : List Served) → own_ticks (as_deeds own fs) ≡ []
+no_own_ticks own [] = refl
+no_own_ticks own (f ∷ fs) = no_own_ticks own fs
+
+done_frames : {V : Type 0} {way : Way V} (home : Home) (a b : Point way) (own : Bool)
+    (fs : List Served) → AreServedInTurn home a fs b → AreDoneInTurn home a (as_deeds own fs) b
+done_frames home a b own [] h = h
+done_frames home a b own (f ∷ fs) h =
+    (h.0, (h.0, h.1, refl), done_frames home h.0 b own fs h.2)
+
+own_both : (ds es : List Deed) → own_ticks (ds ++ es) ≡ own_ticks ds ++ own_ticks es
+own_both [] es = refl
+own_both (Frame own f ∷ ds) es = own_both ds es
+own_both (OwnTick starved ∷ ds) es = ap (λ z. starved ∷ z) (own_both ds es)
+own_both (Settling ok ∷ ds) es = own_both ds es
+
+done_both : {V : Type 0} {way : Way V} (home : Home) (a m b : Point way) (ds es : List Deed)
+    → AreDoneInTurn home a ds m → AreDoneInTurn home m es b → AreDoneInTurn home a (ds ++ es) b
+done_both home a m b [] es h k = subst (λ z. AreDoneInTurn home z es b) (sym h) k
+done_both home a m b (Frame own f ∷ ds) es h k = (h.0, h.1, done_both home h.0 m b ds es h.2 k)
+done_both home a m b (OwnTick starved ∷ ds) es h k =
+    (h.0, h.1, done_both home h.0 m b ds es h.2 k)
+done_both home a m b (Settling ok ∷ ds) es h k = (h.0, h.1, done_both home h.0 m b ds es h.2 k)
 
 -- One client had these turns, of which this is told. It stays, or leaves.
 after_turns : {V : Type 0} {way : Way V} (home : Home) (t : ServingOptions) (before : List Happened)
     (frames : List Served) (guards : ℕ → LockedConnectionOf) (k : ℕ) (turns : List Turn)
-    (js : List Happened)
-    (a b : Room way) (front behind : List Guest) (old new : Guest)
+    (js : List Happened) (a b : Room way) (front behind : List Guest) (old new : Guest)
     → StandsIn home t.wire before guards a.lobby → EachBehind home t.doors before frames guards
     → a.lobby.guests ≡ front ++ old ∷ behind → old.number ≡ k → new.number ≡ k
     → GuardTurns.Follow (with_node a old.talk) turns (with_node b new.talk)
@@ -277,22 +278,19 @@ after_turns home t before frames guards k turns js a b front behind old new s ea
     let q = with_node b new.talk in
     let go = turns_go t.doors seed.0 turns p q follow in
     let talks = λ (j : ℕ). (guards j).talk in
-    let moved =
-    went k talks (within p) (within q) go.0 (ap (λ (g : LockedConnectionOf). g.talk) at) go.1.follow
-    in
-    let after =
-    goes_on home (λ (j : ℕ). (each j).handed) (λ (j : ℕ). (each j).answers)
+    let moved = went k talks (within p) (within q) go.0 (ap (λ (g : LockedConnectionOf). g.talk) at)
+    go.1.follow in
+    let after = goes_on home (λ (j : ℕ). (each j).handed) (λ (j : ℕ). (each j).answers)
     (λ (j : ℕ). served_of j frames) (numbered k go.0) (conns talks a.seen a.outside)
     (conns moved.0 b.seen b.outside) (λ (j : ℕ). (each j).holds) moved.1.follow in
-    let kept =
-    stands_told home t.wire before js (put k new.talk guards) (front ++ new ∷ behind) next
-    (λ j. (gives j (eqb k j) refl).earlier)
+    let kept = stands_told home t.wire before js (put k new.talk guards) (front ++ new ∷ behind)
+    next (λ j. (gives j (eqb k j) refl).earlier)
     (stays home t.wire before guards k front old new behind next was same there) in (
-      as_deeds after.0,
+      as_deeds false after.0,
       put k new.talk guards,
       record {
-        done = done_frames home (point_in a) (point_in b) after.0 after.1;
-        own = no_own_ticks after.0;
+        done = done_frames home (point_in a) (point_in b) false after.0 after.1;
+        own = no_own_ticks false after.0;
         stands = left kept;
         each =
             subst
@@ -313,11 +311,7 @@ closed_gives j k = record { gave = refl; took = refl; earlier = refl }
 
 stop_gives : (e : ServingEnd) (k : ℕ) → Gives k (told_change (Stops e)) [] []
 stop_gives over.All k = record { gave = refl; took = refl; earlier = refl }
-stop_gives over.Stopped k = record { gave = refl; took = refl; earlier = refl }
-stop_gives over.Down k = record { gave = refl; took = refl; earlier = refl }
-stop_gives over.Failed k = record { gave = refl; took = refl; earlier = refl }
-stop_gives over.Tired k = record { gave = refl; took = refl; earlier = refl }
-stop_gives over.NoMemory k = record { gave = refl; took = refl; earlier = refl }
+stop_gives _ k = record { gave = refl; took = refl; earlier = refl }
 
 -- a client came
 record Arrived (home : Home) (t : ServingOptions) (before : List Happened) (frames : List Served)
@@ -341,32 +335,24 @@ arrived home t before frames a b js new seen outside h = (
 )
 
 after_change : {V : Type 0} {way : Way V} (home : Home) (t : ServingOptions)
-    (before : List Happened)
-    (frames : List Served) (guards : ℕ → LockedConnectionOf) (c : Change) (a b : Room way)
-    → b.seen ≡ a.seen → b.outside ≡ a.outside → Changes home t c a.lobby b.lobby
+    (before : List Happened) (frames : List Served) (guards : ℕ → LockedConnectionOf) (c : Change)
+    (a b : Room way) → b.seen ≡ a.seen → b.outside ≡ a.outside → Changes home t c a.lobby b.lobby
     → StandsIn home t.wire before guards a.lobby → EachBehind home t.doors before frames guards
     → LedSome home t before frames a b (told_change c) []
 after_change home t before frames guards (Comes k random) a b seen outside h s each =
     let l = a.lobby in
     let new = fresh_locked_connection t.doors random home t.wire in
     let notes = fresh_notes h.0 in
-    let left : b.lobby
-    ≡ lobby (l.guests ++ guest l.next new notes l.time ∷ []) (l.next + 1) l.time l.own l.spent
-    l.differs None
-    = subst
-    (λ n.
-    b.lobby
-    ≡ lobby (l.guests ++ guest n new notes l.time ∷ []) (l.next + 1) l.time l.own l.spent l.differs
-    None)
+    let left : b.lobby ≡ lobby (l.guests ++ guest l.next new notes l.time ∷ []) (l.next + 1) l.time
+    l.own l.spent l.differs None = subst (λ n. b.lobby ≡ lobby
+    (l.guests ++ guest n new notes l.time ∷ []) (l.next + 1) l.time l.own l.spent l.differs None)
     h.1.number h.1.enters in
     arrived home t before frames a b (told_change (Comes k random)) (put k new guards) seen outside
     (subst
     (λ n. Arrived home t before frames b.lobby (told_change (Comes n random)) (put n new guards))
-    (sym h.1.number)
-    (record {
+    (sym h.1.number) (record {
       stands =
-          subst
-          (λ (z : Lobby). StandsIn home t.wire (before ++ told_change (Comes l.next random))
+          subst (λ (z : Lobby). StandsIn home t.wire (before ++ told_change (Comes l.next random))
           (put l.next new guards) z) (sym left)
           (one_more home t.wire t.doors random before guards l.guests l.next notes l.time s);
       each =
@@ -377,20 +363,15 @@ after_change home t before frames guards (TurnedAway k random) a b seen outside 
     let l = a.lobby in
     let new = fresh_locked_connection t.doors random home t.wire in
     arrived home t before frames a b (told_change (TurnedAway k random)) (put k new guards) seen
-    outside
-    (subst
-    (λ n. Arrived home t before frames b.lobby (told_change (TurnedAway n random))
-    (put n new guards)) (sym h.number)
-    (record {
+    outside (subst (λ n. Arrived home t before frames b.lobby (told_change (TurnedAway n random))
+    (put n new guards)) (sym h.number) (record {
       stands =
-          subst
-          (λ (z : Lobby). StandsIn home t.wire (before ++ told_change (TurnedAway l.next random))
-          (put l.next new guards) z) (sym h.enters)
-          (subst
-          (λ z. Stands home t.wire (before ++ told_change (TurnedAway l.next random))
-          (put l.next new guards) z (l.next + 1)) (sym (append-nil l.guests))
-          (arrives home t.wire t.doors random before (Closed l.next ∷ []) guards l.guests l.next
-          (λ k. refl) s));
+          subst (λ (z : Lobby). StandsIn home t.wire
+          (before ++ told_change (TurnedAway l.next random)) (put l.next new guards) z)
+          (sym h.enters) (subst (λ z. Stands home t.wire
+          (before ++ told_change (TurnedAway l.next random)) (put l.next new guards) z (l.next + 1))
+          (sym (append-nil l.guests)) (arrives home t.wire t.doors random before
+          (Closed l.next ∷ []) guards l.guests l.next (λ k. refl) s));
       each =
           came_behind home t.wire t.doors random l.next before (Closed l.next ∷ []) frames guards
           (s.fresh l.next (omega arith)) (closed_gives l.next) each;
@@ -440,8 +421,7 @@ after_change home t before frames guards (Stops e) a b seen outside h s each =
 -- ---- a client that is ready
 
 visit_gives : (k : ℕ) (turns : List Turn) (fate : Option EndReason) (j : ℕ) (own : Bool)
-    → eqb k j ≡ own
-    → Gives j (told (Visit k turns fate)) (cond own (received turns) [])
+    → eqb k j ≡ own → Gives j (told (Visit k turns fate)) (cond own (received turns) [])
     (cond own (handed_out turns) [])
 visit_gives k turns fate j own is =
     let h = turns_give j k own is turns (told_why k fate ++ told_end k fate) (end_gives j k fate) in
@@ -449,17 +429,14 @@ visit_gives k turns fate j own is =
 
 after_visit : {V : Type 0} {way : Way V} (home : Home) (t : ServingOptions) (before : List Happened)
     (frames : List Served) (guards : ℕ → LockedConnectionOf) (k : ℕ) (turns : List Turn)
-    (fate : Option EndReason)
-    (a b : Room way) (front behind : List Guest) (old new : Guest)
+    (fate : Option EndReason) (a b : Room way) (front behind : List Guest) (old new : Guest)
     → StandsIn home t.wire before guards a.lobby → EachBehind home t.doors before frames guards
     → Visits k turns fate a b front behind old new
     → LedSome home t before frames a b (told (Visit k turns fate)) []
 after_visit home t before frames guards k turns fate a b front behind old new s each h =
     after_turns home t before frames guards k turns (told (Visit k turns fate)) a b front behind old
     new s each h.found h.number h.same h.follow (visit_gives k turns fate)
-    (λ kept.
-    subst
-    (λ (l : Lobby). StandsIn home t.wire (before ++ told (Visit k turns fate))
+    (λ kept. subst (λ (l : Lobby). StandsIn home t.wire (before ++ told (Visit k turns fate))
     (put k new.talk guards) l) (sym h.left) (left fate kept))
   where
     left : (f : Option EndReason)
@@ -500,42 +477,34 @@ after_step home t before frames guards (Ticked now starved) a b stands each h = 
 )
 after_step home t before frames guards (Visit k turns fate) a b stands each h =
     after_visit home t before frames guards k turns fate a b h.0 h.1 h.2 h.3 stands each h.4
-after_step home t before frames guards (Settles ok) a b stands each h = (
-  Settling ok ∷ [],
-  guards,
-  record {
-    done = (point_in b, (h.seen, h.node, h.handed), refl);
-    own = refl;
-    stands =
-        subst (λ (l : Lobby). StandsIn home t.wire (before ++ []) guards l) (sym h.left)
-        (stands_told home t.wire before [] guards a.lobby.guests a.lobby.next (λ k. refl) stands);
-    each = λ k.
-        still_behind home t.doors k before [] frames [] (guards k) (nothing_gives k) refl (each k);
-  },
-)
+after_step home t before frames guards (Settles heard ok) a b stands each h =
+    let deeds = as_deeds true heard in
+    let last : List Deed = Settling ok ∷ [] in
+    let none : frames_in (deeds ++ last) ≡ [] =
+    frames-both deeds last ∙ ap (λ z. z ++ []) (none_of_clients heard) in (
+      deeds ++ last,
+      guards,
+      record {
+        done =
+            done_both home (point_in a) h.between (point_in b) deeds last
+            (done_frames home (point_in a) h.between true heard h.hears)
+            (point_in b, (h.seen, h.node, h.handed), refl);
+        own = own_both deeds last ∙ ap (λ z. z ++ []) (no_own_ticks true heard);
+        stands =
+            subst (λ (l : Lobby). StandsIn home t.wire (before ++ []) guards l) (sym h.left)
+            (stands_told home t.wire before [] guards a.lobby.guests a.lobby.next (λ k. refl)
+            stands);
+        each = λ k.
+            still_behind home t.doors k before [] frames (frames_in (deeds ++ last)) (guards k)
+            (nothing_gives k) (ap (λ z. served_of k z) none) (each k);
+      },
+    )
 
 -- ---- all steps
 
-own_both : (ds es : List Deed) → own_ticks (ds ++ es) ≡ own_ticks ds ++ own_ticks es
-own_both [] es = refl
-own_both (Frame f ∷ ds) es = own_both ds es
-own_both (OwnTick starved ∷ ds) es = ap (λ z. starved ∷ z) (own_both ds es)
-own_both (Settling ok ∷ ds) es = own_both ds es
-
 ticks_first : (s : Step) (ss : List Step) → ticks_of (s ∷ []) ++ ticks_of ss ≡ ticks_of (s ∷ ss)
 ticks_first (Changed c) ss = refl
-ticks_first (Clock now) ss = refl
-ticks_first (Ticked now starved) ss = refl
-ticks_first (Visit k turns fate) ss = refl
-ticks_first (Settles ok) ss = refl
-
-done_both : {V : Type 0} {way : Way V} (home : Home) (a m b : Point way) (ds es : List Deed)
-    → AreDoneInTurn home a ds m → AreDoneInTurn home m es b → AreDoneInTurn home a (ds ++ es) b
-done_both home a m b [] es h k = subst (λ z. AreDoneInTurn home z es b) (sym h) k
-done_both home a m b (Frame f ∷ ds) es h k = (h.0, h.1, done_both home h.0 m b ds es h.2 k)
-done_both home a m b (OwnTick starved ∷ ds) es h k =
-    (h.0, h.1, done_both home h.0 m b ds es h.2 k)
-done_both home a m b (Settling ok ∷ ds) es h k = (h.0, h.1, done_both home h.0 m b ds es h.2 k)
+ticks_first _ ss = refl
 
 after_steps : {V : Type 0} {way : Way V} (home : Home) (t : ServingOptions) (before : List Happened)
     (frames : List Served) (guards : ℕ → LockedConnectionOf) (ss : List Step) (a b : Room way)
@@ -548,8 +517,7 @@ after_steps home t before frames guards (x ∷ ss) a b s each h =
     let first = after_step home t before frames guards x a h.0 s each h.1 in
     let now = before ++ told x in
     let begun = frames ++ frames_in first.0 in
-    let more =
-    after_steps home t now begun first.1 ss h.0 b first.2.stands first.2.each h.2 in
+    let more = after_steps home t now begun first.1 ss h.0 b first.2.stands first.2.each h.2 in
     let parts = append_assoc before (told x) (told_all ss) in
     let all : begun ++ frames_in more.0 ≡ frames ++ frames_in (first.0 ++ more.0) =
     append_assoc frames (frames_in first.0) (frames_in more.0)
@@ -594,11 +562,10 @@ between_more hall a m b [] h k = makes_both hall a m b h k
 between_more hall a m b (ok ∷ more) h k = (k.0, k.1, makes_both hall a m k.0 h k.2, k.3, k.4)
 
 makes_deeds : {V : Type 0} {way : Way V} (home : Home) (a b : Point way) (ds : List Deed)
-    → AreDoneInTurn home a ds b
-    → (settlings : List Bool) × MakesBetween home.hall a settlings b
+    → AreDoneInTurn home a ds b → (settlings : List Bool) × MakesBetween home.hall a settlings b
 makes_deeds {V} {way} home a b [] is =
     ([], subst (λ (z : Point way). MakesSome home.hall a z) is ([], Makes-nil home.hall a.outside))
-makes_deeds home a b (Frame f ∷ ds) h =
+makes_deeds home a b (Frame own f ∷ ds) h =
     let later = makes_deeds home h.0 b ds h.2 in (
       later.0,
       between_more home.hall a h.0 b later.0 (makes_all home a h.0 (f ∷ []) h.1) later.1,
@@ -618,15 +585,13 @@ pub each_client : {V : Type 0} (d : DeskOf V) → EachClientIsServed d
 each_client d result home t period a b before after steps h =
     let none = λ (k : ℕ). fresh_locked_connection t.doors [] home t.wire in
     let at_start : StandsIn home t.wire [] none a.lobby =
-    subst (λ (l : Lobby). StandsIn home t.wire [] none l) (sym h.first)
-    (record {
+    subst (λ (l : Lobby). StandsIn home t.wire [] none l) (sym h.first) (record {
       hosted = tt;
       fresh = λ k above. record { talk = refl; absent = refl };
       low = tt;
       apart = tt;
     }) in
-    let led =
-    after_steps home t [] [] none steps a b at_start
+    let led = after_steps home t [] [] none steps a b at_start
     (λ k. nothing_behind home t.wire t.doors (none k) k refl) h.pass in (
       led.0,
       led.2.done,

@@ -1,15 +1,14 @@
 -- What is told of each client, one after the other.
-use Rattle.std.proofs.Common.{◌≡◌, refl, sym, ap, ◌∙◌, ℕ, List, [], ◌∷◌, ◌++◌, append_assoc}
-use Rattle.std.proofs.Common.{Option, None, Some, Bool, true, false, cond, eqb}
-use Rattle.serving.specs.TurnLaw.{Came as CameIn, Began, Rested, Took as TookOf, Turn}
-use Rattle.serving.specs.TurnLaw.{handed_out, received}
+use Rattle.std.proofs.Common.{◌≡◌, refl, sym, ap, ◌∙◌, ℕ, List, [], ◌∷◌, ◌++◌, append_assoc, Option}
+use Rattle.std.proofs.Common.{None, Some, Bool, true, false, cond, eqb}
+use Rattle.serving.specs.TurnLaw.{Came as CameIn, Began, Rested, Took as TookOf, Turn, handed_out}
+use Rattle.serving.specs.TurnLaw.{received}
 use Rattle.connections.specs.Connections.{Served, served_of}
 use Rattle.multiplex.specs.EachClient.{Deed, Frame, OwnTick, Settling, came_with, frames_in, gave}
-use Rattle.multiplex.specs.EachClient.{took}
+use Rattle.multiplex.specs.{EachClient.took, declared.ends.EndReason.EndReason}
 use Rattle.polled.specs.Happenings.{Happened, Round, Came, Full, Named, Gave, Took, Ended, Broke}
 use Rattle.polled.specs.Happenings.{Closed, Failed}
 use Rattle.multiplex.specs.Passing.{told_end, told_turns, told_why}
-use Rattle.multiplex.specs.declared.ends.EndReason.{EndReason}
 use Rattle.multiplex.specs.declared.ends.EndReason.TheVariants as why
 
 -- ---- two lists, one after the other
@@ -77,7 +76,8 @@ came_with-both k (Failed ∷ hs) js = came_with-both k hs js
 
 pub frames-both : (ds es : List Deed) → frames_in (ds ++ es) ≡ frames_in ds ++ frames_in es
 frames-both [] es = refl
-frames-both (Frame f ∷ ds) es = ap (λ z. f ∷ z) (frames-both ds es)
+frames-both (Frame false f ∷ ds) es = ap (λ z. f ∷ z) (frames-both ds es)
+frames-both (Frame true f ∷ ds) es = frames-both ds es
 frames-both (OwnTick starved ∷ ds) es = frames-both ds es
 frames-both (Settling ok ∷ ds) es = frames-both ds es
 

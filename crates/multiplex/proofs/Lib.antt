@@ -3,6 +3,7 @@ pub mod Looking
 pub mod Noted
 pub mod Placed
 pub mod Walking
+pub mod Heard
 pub mod Shutting
 pub mod Stepping
 pub mod Apart

@@ -1,16 +1,12 @@
 -- What a look at the desk leaves.
-use Rattle.std.proofs.Common.{◌≡◌, ◌≢◌, refl, Option, None, Some, Result, Ok, Err}
-use Rattle.std.proofs.Common.{Bool, true, false, ℕ, List, [], ◌∷◌, sym, subst}
+use Rattle.std.proofs.Common.{◌≡◌, ◌≢◌, refl, Option, None, Some, Result, Ok, Err, Bool, true}
+use Rattle.std.proofs.Common.{false, ℕ, List, [], ◌∷◌, sym, subst}
 use Rattle.polled.specs.Telling.{Tells}
-use Rattle.multiplex.specs.Musts.{WereKeptAt}
+use Rattle.multiplex.specs.{Musts.WereKeptAt, Passing.TicksBy, model.Ticks.own_of}
 use Rattle.std.specs.Prelude.{OnOk, OnErr, is_err, is_some}
-use Rattle.serving.specs.Connection.{Sides}
-use Rattle.serving.specs.Making.{Way}
-use Rattle.serving.specs.OwnTicks.{Ticks, TicksInPart}
+use Rattle.serving.specs.{Connection.Sides, Making.Way, OwnTicks.Ticks, OwnTicks.TicksInPart}
 use Rattle.store.specs.declared.home.Home.{Home}
 use Rattle.ticking.specs.Ticking.{Ticking}
-use Rattle.multiplex.specs.Passing.{TicksBy}
-use Rattle.multiplex.specs.model.Ticks.{own_of}
 
 pub ticks_by : {T E V : Type 0} {way : Way V} (r : Result T E) (home : Home) (a b : Sides way)
     → OnOk r (Ticks home a b) → OnErr r (TicksInPart home a b) → TicksBy (is_err r) home a b

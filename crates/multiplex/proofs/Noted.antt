@@ -1,19 +1,16 @@
 -- What is seen of the frame that is begun next, and whether it is put off.
-use Rattle.std.proofs.Common.{◌≡◌, refl, sym, ap, subst, ◌∙◌, ℕ, ◌≤◌, Bool, true, false, List, []}
+use Rattle.std.proofs.Common.{◌≡◌, refl, sym, ap, subst, ◌∙◌, ℕ, Bool, true, false, List, []}
 use Rattle.std.proofs.Common.{◌∷◌, Option, None, Some}
 use Rattle.std.specs.Prelude.{not}
 use Rattle.answers.specs.Seen.{Seen}
 use Rattle.guarded.specs.LockedConnections.{LockedConnectionOf, IsFree}
-use Rattle.serving.specs.Differing.{first_difference, first_frame}
-use Rattle.serving.specs.declared.differing.AwaitRequest.{AwaitRequest}
-use Rattle.serving.specs.declared.ends.ConnectionEnd.{ConnectionEnd}
+use Rattle.serving.specs.{Differing.first_difference, declared.differing.AwaitRequest.AwaitRequest}
+use Rattle.serving.specs.{Differing.first_frame, declared.ends.ConnectionEnd.ConnectionEnd}
 use Rattle.store.specs.declared.home.Home.{Home}
 use Rattle.wire.specs.Ranges.{IsDifference}
-use Rattle.wire.specs.declared.frame.Frame.{Frame}
-use Rattle.wire.specs.declared.standing.Difference.{Difference}
-use Rattle.multiplex.specs.Noting.{IsOff, PutsOff, awaited_next, is_due, next_if, next_of, off_by}
-use Rattle.multiplex.specs.Noting.{until_of}
-use Rattle.multiplex.specs.declared.notes.Notes.{Notes}
+use Rattle.wire.specs.declared.{frame.Frame.Frame, standing.Difference.Difference}
+use Rattle.multiplex.specs.Noting.{PutsOff, awaited_next, is_due, next_if, next_of, off_by}
+use Rattle.multiplex.specs.{Noting.until_of, declared.notes.Notes.Notes}
 
 -- the frame that is begun next is the first one that waits, where one may be begun
 pub next_free : (c : LockedConnectionOf) → IsFree c → next_of c ≡ first_frame c.talk.waiting
@@ -47,10 +44,9 @@ off_none home x time c old new next until known =
     (ap (λ z. off_by x z time old.until) next, until, known)
 
 pub off_due : (home : Home) (x : Seen) (time : ℕ) (c : LockedConnectionOf) (old new : Notes)
-    (a : AwaitRequest)
-    (until : ℕ) → awaited_next home c ≡ Some a → until ≡ until_of a time old.until
-    → true ≡ is_due x a until time → new.until ≡ None → new.known ≡ old.known
-    → PutsOff false home x time c old new
+    (a : AwaitRequest) (until : ℕ) → awaited_next home c ≡ Some a
+    → until ≡ until_of a time old.until → true ≡ is_due x a until time → new.until ≡ None
+    → new.known ≡ old.known → PutsOff false home x time c old new
 off_due home x time c old new a until next at due none known = (
   ap (λ z. off_by x z time old.until) next
       ∙ ap (λ u. not (is_due x a u time)) (sym at) ∙ sym (ap not due),
@@ -59,10 +55,9 @@ off_due home x time c old new a until next at due none known = (
 )
 
 pub off_waits : (home : Home) (x : Seen) (time : ℕ) (c : LockedConnectionOf) (old new : Notes)
-    (a : AwaitRequest)
-    (until : ℕ) → home ≡ c.talk.home → awaited_next home c ≡ Some a
-    → until ≡ until_of a time old.until → false ≡ is_due x a until time
-    → new.until ≡ Some until → new.known ≡ old.known → PutsOff true home x time c old new
+    (a : AwaitRequest) (until : ℕ) → home ≡ c.talk.home → awaited_next home c ≡ Some a
+    → until ≡ until_of a time old.until → false ≡ is_due x a until time → new.until ≡ Some until
+    → new.known ≡ old.known → PutsOff true home x time c old new
 off_waits home x time c old new a until same next at due put known = (
   ap (λ z. off_by x z time old.until) next
       ∙ ap (λ u. not (is_due x a u time)) (sym at) ∙ sym (ap not due),

@@ -1,6 +1,5 @@
 -- Without a period there is no ticker, and so no Tick.
-use Rattle.std.proofs.Common.{◌≡◌, refl, ap, ◌∙◌, List, [], ◌∷◌, Option, None, Some}
-use Rattle.std.proofs.Common.{Bool, false}
+use Rattle.std.proofs.Common.{◌≡◌, refl, ap, ◌∙◌, List, [], ◌∷◌, Option, None, Some, Bool, false}
 use Rattle.std.specs.Prelude.{IsTrue}
 use Rattle.answers.specs.declared.desk.Desk.{Ghosts as DeskOf}
 use Rattle.serving.specs.Making.{Way}
@@ -9,9 +8,8 @@ use Rattle.ticking.specs.Ticking.{Look, Ticking}
 use Rattle.multiplex.specs.EachClient.{TicksNeedAPeriod, ticks_of}
 use Rattle.multiplex.specs.Passing.{Change, Changed, Changes, Clock, Comes, Lobby, NoSocket, Pass}
 use Rattle.multiplex.specs.Passing.{Room, Shut, Step, Stops, Stray, TakesLast, Ticked, TurnedAway}
-use Rattle.multiplex.specs.Passing.{Settles}
-use Rattle.multiplex.specs.Passing.{Unwatched, Visit, look_in, looked, ticks_after, ticks_at}
-use Rattle.multiplex.specs.declared.own_ticks.OwnTicks.{OwnTicks}
+use Rattle.multiplex.specs.Passing.{Settles, Unwatched, Visit, look_in, looked, ticks_after}
+use Rattle.multiplex.specs.{Passing.ticks_at, declared.own_ticks.OwnTicks.OwnTicks}
 use Rattle.multiplex.specs.declared.table.ServingOptions.{ServingOptions}
 
 abbrev HasNone : Lobby → Type 0
@@ -44,17 +42,15 @@ no_ticks home t (Changed c ∷ ss) a b none h =
     no_ticks home t ss h.0 b
     (ap (λ (w : OwnTicks). w.ticker) (after_change home t c a.lobby h.0.lobby h.1.0) ∙ none) h.2
 no_ticks home t (Clock now ∷ ss) a b none h =
-    no_ticks home t ss h.0 b
-    (ap (λ (l : Lobby). l.own.ticker) h.1.left
+    no_ticks home t ss h.0 b (ap (λ (l : Lobby). l.own.ticker) h.1.left
     ∙ still_none a.lobby.own (look_in a now) false none) h.2
 no_ticks home t (Ticked now starved ∷ ss) a b none h =
     absurd (not_due a.lobby.own.ticker (look_in a now) none h.1.due)
 no_ticks home t (Visit k turns fate ∷ ss) a b none h =
     no_ticks home t ss h.0 b (ap (λ (l : Lobby). l.own.ticker) h.1.4.left ∙ none) h.2
-no_ticks home t (Settles ok ∷ ss) a b none h =
+no_ticks home t (Settles heard ok ∷ ss) a b none h =
     no_ticks home t ss h.0 b (ap (λ (l : Lobby). l.own.ticker) h.1.left ∙ none) h.2
 
 pub ticks_need_a_period : {V : Type 0} (d : DeskOf V) → TicksNeedAPeriod d
 ticks_need_a_period d result home t a b before after steps h =
-    no_ticks home t steps a b
-    (ap (λ (l : Lobby). l.own.ticker) h.first) h.pass
+    no_ticks home t steps a b (ap (λ (l : Lobby). l.own.ticker) h.first) h.pass

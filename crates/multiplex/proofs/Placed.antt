@@ -1,11 +1,8 @@
 -- A place in a list, and what is kept of all.
-use Rattle.std.proofs.Common.{◌≡◌, refl, sym, ap, ◌∙◌, ℕ, ◌+◌, ◌<◌, List, []}
-use Rattle.std.proofs.Common.{◌∷◌, ◌++◌, length, take, drop, get_or, suc, zero, None, Some, Bool}
-use Rattle.std.proofs.Common.{true, false, cond, arith}
+use Rattle.std.proofs.Common.{◌≡◌, refl, List, ◌++◌, length, take, drop, get_or, zero, false, arith}
+use Rattle.std.proofs.Common.{sym, ap, ◌∙◌, ℕ, ◌+◌, ◌<◌, [], ◌∷◌, suc, None, Some, Bool, true, cond}
 use Rattle.std.proofs.lemmas.Iterator.Adapters.{position_from-zero}
-use Rattle.std.specs.List.{AllByRecursion}
-use Rattle.std.specs.List.{position_from}
-use Rattle.std.specs.Prelude.{position}
+use Rattle.std.specs.{List.AllByRecursion, List.position_from, Prelude.position}
 
 -- the list about its i-th element
 pub record Split {X : Type 0} (xs : List X) (i : ℕ) (x : X) : Type 0 where

@@ -1,23 +1,19 @@
 -- The clients of a lobby, each with what is behind its door.
-use Rattle.std.proofs.Common.{◌≡◌, ◌≢◌, refl, sym, ap, subst, ◌∙◌, ℕ, ◌+◌, ◌<◌, ◌≤◌}
-use Rattle.std.proofs.Common.{List, [], ◌∷◌, ◌++◌, Option, None, Some, arith, cond, eqb}
+use Rattle.std.proofs.Common.{◌≡◌, ◌≢◌, refl, sym, ap, subst, ◌∙◌, ℕ, ◌+◌, ◌<◌, ◌≤◌, List, [], ◌∷◌}
+use Rattle.std.proofs.Common.{◌++◌, Option, None, Some, arith, cond, eqb}
 use Rattle.std.proofs.lemmas.Bool.{eq-eqb, ne_eqb}
-use Rattle.std.specs.List.{AllByRecursion}
-use Rattle.std.specs.Prelude.{IsSome}
+use Rattle.std.specs.{List.AllByRecursion, Prelude.IsSome}
 use Rattle.guarded.specs.LockedConnections.{LockedConnectionOf, fresh_locked_connection}
 use Rattle.sealed.specs.declared.callers.Access.{Access}
 use Rattle.serving.specs.Turns.{new_talk}
 use Rattle.store.specs.declared.home.Home.{Home}
 use Rattle.wire.specs.declared.values.Version.{Version}
-use Rattle.multiplex.specs.EachClient.{came_with}
+use Rattle.multiplex.{specs.EachClient.came_with, specs.Passing.Lobby, proofs.Shutting.all_but}
 use Rattle.polled.specs.Happenings.{Happened, Came}
-use Rattle.multiplex.specs.Passing.{Lobby, guest}
-use Rattle.multiplex.specs.declared.notes.Notes.{Notes}
-use Rattle.multiplex.specs.declared.table.Guest.{Guest}
+use Rattle.multiplex.specs.{Passing.guest, declared.notes.Notes.Notes, declared.table.Guest.Guest}
 use Rattle.multiplex.proofs.Apart.{Apart, Below, Other, instead, one_behind, others, without}
 use Rattle.multiplex.proofs.Giving.{came_with-both, first_there}
 use Rattle.multiplex.proofs.Placed.{all_as, all_back, all_both, all_front}
-use Rattle.multiplex.proofs.Shutting.{all_but}
 
 -- ---- one by its number
 
@@ -40,14 +36,12 @@ pub record Hosted (told : List Happened) (guards : ℕ → LockedConnectionOf)
 
 -- one that did not come
 pub record IsFresh (home : Home) (wire : Version) (told : List Happened)
-    (guards : ℕ → LockedConnectionOf)
-    (k : ℕ) : Type 0 where
+    (guards : ℕ → LockedConnectionOf) (k : ℕ) : Type 0 where
   pub talk : (guards k).talk ≡ new_talk home wire
   pub absent : came_with k told ≡ None
 
 pub record Stands (home : Home) (wire : Version) (told : List Happened)
-    (guards : ℕ → LockedConnectionOf)
-    (guests : List Guest) (next : ℕ) : Type 0 where
+    (guards : ℕ → LockedConnectionOf) (guests : List Guest) (next : ℕ) : Type 0 where
   pub hosted : AllByRecursion (Hosted told guards) guests
   pub fresh : (k : ℕ) → next ≤ k → IsFresh home wire told guards k
   pub low : AllByRecursion (Below next) guests
@@ -102,9 +96,8 @@ leaves home wire told guards before g after next h = record {
 }
 
 still_hosted : (told : List Happened) (guards : ℕ → LockedConnectionOf) (k : ℕ)
-    (g : LockedConnectionOf)
-    (gs : List Guest) → AllByRecursion (Other k) gs → AllByRecursion (Hosted told guards) gs
-    → AllByRecursion (Hosted told (put k g guards)) gs
+    (g : LockedConnectionOf) (gs : List Guest) → AllByRecursion (Other k) gs
+    → AllByRecursion (Hosted told guards) gs → AllByRecursion (Hosted told (put k g guards)) gs
 still_hosted told guards k g [] far h = tt
 still_hosted told guards k g (x ∷ gs) far h = (
   record { at = put_other k g guards x.number far.0 ∙ h.0.at; came = h.0.came },
@@ -113,9 +106,8 @@ still_hosted told guards k g (x ∷ gs) far h = (
 
 -- the client in the middle had its turns, and stays
 pub stays : (home : Home) (wire : Version) (told : List Happened) (guards : ℕ → LockedConnectionOf)
-    (k : ℕ)
-    (before : List Guest) (old new : Guest) (after : List Guest) (next : ℕ)
-    → old.number ≡ k → new.number ≡ k → Stands home wire told guards (before ++ old ∷ after) next
+    (k : ℕ) (before : List Guest) (old new : Guest) (after : List Guest) (next : ℕ) → old.number ≡ k
+    → new.number ≡ k → Stands home wire told guards (before ++ old ∷ after) next
     → Stands home wire told (put k new.talk guards) (before ++ new ∷ after) next
 stays home wire told guards k before old new after next was is h =
     let far = others before old after h.apart in
@@ -129,9 +121,8 @@ stays home wire told guards k before old new after next was is h =
     } in
     record {
       hosted =
-          all_both (Hosted told (put k new.talk guards)) before (new ∷ after)
-          (still_hosted told guards k new.talk before
-          (subst (λ n. AllByRecursion (Other n) before) was far.0)
+          all_both (Hosted told (put k new.talk guards)) before (new ∷ after) (still_hosted told
+          guards k new.talk before (subst (λ n. AllByRecursion (Other n) before) was far.0)
           (all_front (Hosted told guards) before (old ∷ after) h.hosted)) (
             here,
             still_hosted told guards k new.talk after
@@ -181,8 +172,7 @@ arrives home wire doors random told js guards guests next none h =
           (λ g was. record {
             at = was.at;
             came = still_came g.number told (Came next random ∷ js) was.came;
-          })
-          (still_hosted told guards next new guests
+          }) (still_hosted told guards next new guests
           (all_as (Below next) (Other next) guests (λ g low e. omega (arith, low, e)) h.low)
           h.hosted);
       fresh = λ k above.
@@ -201,8 +191,7 @@ arrives home wire doors random told js guards guests next none h =
 
 pub one_more : (home : Home) (wire : Version) (doors : Access) (random : List ℕ)
     (told : List Happened) (guards : ℕ → LockedConnectionOf) (guests : List Guest) (next : ℕ)
-    (notes : Notes)
-    (time : ℕ) → Stands home wire told guards guests next
+    (notes : Notes) (time : ℕ) → Stands home wire told guards guests next
     → Stands home wire (told ++ Came next random ∷ [])
     (put next (fresh_locked_connection doors random home wire) guards)
     (guests ++ guest next (fresh_locked_connection doors random home wire) notes time ∷ [])

@@ -1,24 +1,21 @@
 -- In each turn one frame of a client is begun at most, and in each round one at most that asks for
 -- something dear.
-use Rattle.std.proofs.Common.{◌≡◌, refl, sym, ap, subst, ◌∙◌, ℕ, ◌+◌, ◌≤◌, suc, arith}
-use Rattle.std.proofs.Common.{List, [], ◌∷◌, ◌++◌, append-nil, append_assoc, Bool, true, false}
-use Rattle.std.proofs.Common.{Option, None, Some, if◌then◌else◌}
+use Rattle.std.proofs.Common.{◌≡◌, refl, ap, ◌∙◌, ℕ, ◌+◌, ◌≤◌, suc, arith, List, []}
+use Rattle.std.proofs.Common.{◌∷◌, ◌++◌, append_assoc, Bool, true, false, None}
+use Rattle.std.proofs.Common.{Some, if◌then◌else◌}
 use Rattle.answers.specs.declared.desk.Desk.{Ghosts as DeskOf}
-use Rattle.serving.specs.Connection.{Begun}
+use Rattle.connections.specs.Connections.{begun_of}
+use Rattle.serving.specs.{Connection.Begun, Making.Way, TurnLaw.begun_in}
 use Rattle.serving.specs.Kinds.{is_dear, is_message}
-use Rattle.serving.specs.Making.{Way}
-use Rattle.serving.specs.TurnLaw.{begun_in}
 use Rattle.store.specs.declared.home.Home.{Home}
 use Rattle.wire.specs.declared.frame.FrameBody.{FrameBody}
-use Rattle.wire.specs.declared.frame.FrameBody.TheVariants as what
 use Rattle.multiplex.specs.Passing.{AreMessages, Change, Changed, Changes, Clock, Comes, Lobby}
-use Rattle.multiplex.specs.Passing.{NoSocket, Pass, Room, Shares, SharesLast, SharesOne, Shut}
-use Rattle.multiplex.specs.Passing.{Step, Stops, Stray, TakesLast, Ticked, TurnedAway, Unwatched}
-use Rattle.multiplex.specs.Passing.{Settles}
-use Rattle.multiplex.specs.Passing.{Visit}
-use Rattle.multiplex.specs.SharedTurns.{AreShared, TurnsAreShared, begun_by, count_dear}
+use Rattle.multiplex.specs.Passing.{NoSocket, Pass, Room, Shares, SharesLast, SharesOne, Shut, Step}
+use Rattle.multiplex.specs.Passing.{Stops, Stray, TakesLast, Ticked, TurnedAway, Unwatched, Settles}
+use Rattle.multiplex.specs.{Passing.Visit, declared.table.ServingOptions.ServingOptions}
+use Rattle.multiplex.specs.SharedTurns.{TurnsAreShared, begun_by, count_dear}
 use Rattle.multiplex.specs.SharedTurns.{count_others, rounds, visits}
-use Rattle.multiplex.specs.declared.table.ServingOptions.{ServingOptions}
+use Rattle.wire.specs.declared.frame.FrameBody.TheVariants as what
 
 -- 1 where one was answered in this round
 abbrev one_if : Bool → ℕ
@@ -80,26 +77,7 @@ adds_last (one ∷ (other ∷ xs)) more spent later h = absurd h
 small : (w : FrameBody) → is_message w ≡ true → is_dear w ≡ false
 small (what.Sheet event round position style) h = absurd cc
 small (what.Log position) h = absurd cc
-small (what.Prepare b pos) h = refl
-small (what.Promise b pos vote) h = refl
-small (what.Accept b pos e) h = refl
-small (what.Accepted b pos) h = refl
-small (what.Nack b pos promised) h = refl
-small (what.Behind len) h = refl
-small (what.Decided pos es) h = refl
-small (what.Submit e) h = refl
-small (what.Ask id) h = refl
-small (what.Await id seconds) h = refl
-small what.Tick h = refl
-small what.Stop h = refl
-small what.Status h = refl
-small (what.Taken id) h = refl
-small (what.Told id s) h = refl
-small (what.SheetText bytes) h = refl
-small (what.Refused refusal) h = refl
-small what.Fine h = refl
-small (what.Standing standing) h = refl
-small (what.Entries position length entries) h = refl
+small _ h = refl
 
 -- before others they count for nothing
 record AddsNone (xs more : List Begun) : Type 0 where
@@ -116,8 +94,7 @@ adds_none (x ∷ xs) more h =
           ∙ rest.frames;
       dear =
           ap (λ b. if b then suc (count_dear (xs ++ more)) else count_dear (xs ++ more))
-          (small x.frame.what h.0)
-          ∙ rest.dear;
+          (small x.frame.what h.0) ∙ rest.dear;
     }
 
 adds : (xs more : List Begun) (spent later : Bool) → Shares xs spent later
@@ -142,8 +119,7 @@ at_most_one true = omega arith
 at_most_one false = omega arith
 
 grown : {V : Type 0} {way : Way V} (home : Home) (t : ServingOptions) (steps : List Step)
-    (a b : Room way)
-    → Pass home t a steps b → Grown steps a.lobby.spent b.lobby.spent
+    (a b : Room way) → Pass home t a steps b → Grown steps a.lobby.spent b.lobby.spent
 grown {V} {way} home t [] a b h = record {
   frames = omega arith;
   dear =
@@ -174,10 +150,14 @@ grown home t (Visit k turns fate ∷ ss) a b h =
       frames = omega (arith, one.frames, later.frames);
       dear = omega (arith, one.dear, later.dear);
     }
-grown home t (Settles ok ∷ ss) a b h =
+grown home t (Settles heard ok ∷ ss) a b h =
     let later = grown home t ss h.0 b h.2 in
+    let none = adds_none (begun_of heard) (begun_by ss) h.1.messages in
     let same = ap (λ (l : Lobby). one_if l.spent) h.1.left in
-    record { frames = later.frames; dear = omega (arith, later.dear, same) }
+    record {
+      frames = omega (arith, none.frames, later.frames);
+      dear = omega (arith, none.dear, later.dear, same);
+    }
 
 pub turns_are_shared : {V : Type 0} (d : DeskOf V) → TurnsAreShared d
 turns_are_shared d home t a b steps h =

@@ -1,44 +1,32 @@
 -- Changes of which the node knows nothing, one after the other.
-use Rattle.std.proofs.Common.{◌≡◌, ◌⊎◌, inl, inr, refl, sym, ap, subst, ◌∙◌, ℕ, ◌+◌, ◌<◌, ◌≤◌}
-use Rattle.std.proofs.Common.{List, [], ◌∷◌, ◌++◌, append-nil, length, length-append, Option, None}
-use Rattle.std.proofs.Common.{Some, arith, get_or, true, false, ◌-◌, position, Bool}
-use Rattle.std.proofs.lemmas.Bool.{ltb-true}
-use Rattle.std.proofs.lemmas.List.Quantifiers.{position-Some}
+use Rattle.std.proofs.Common.{◌≡◌, ◌⊎◌, inl, inr, refl, sym, ap, subst, ◌∙◌, ℕ, ◌+◌, ◌<◌, ◌≤◌, List}
+use Rattle.std.proofs.Common.{[], ◌∷◌, ◌++◌, append-nil, length, length-append, Option, None, Some}
+use Rattle.std.proofs.Common.{arith, get_or, true, false, ◌-◌, position, Bool}
+use Rattle.std.proofs.lemmas.{Bool.ltb-true, List.Quantifiers.position-Some}
 use Rattle.store.specs.declared.home.Home.{Home}
 use Rattle.guarded.specs.LockedConnections.{LockedConnectionOf, begun, fresh_locked_connection}
 use Rattle.std.specs.List.{AllByRecursion}
-use Rattle.polled.specs.Telling.{Tells}
+use Rattle.polled.{specs.Telling.Tells, proofs.Telling.Tells-as, proofs.Telling.Tells-trans}
 use Rattle.polled.specs.Happenings.{Happened, Broke, Came, Closed, Full, watched}
-use Rattle.multiplex.specs.Passing.{Change, Changes, Comes, Lobby, NoSocket, Shut, TurnedAway}
-use Rattle.multiplex.specs.Passing.{TakesLast, Unwatched}
-use Rattle.multiplex.specs.Passing.{Enters, IsCause, guest, lobby, told_change}
-use Rattle.multiplex.specs.declared.dear.DearTurns.{DearTurns}
-use Rattle.multiplex.specs.declared.ends.ServingEnd.{ServingEnd}
-use Rattle.multiplex.specs.declared.ends.EndReason.{EndReason}
-use Rattle.multiplex.specs.declared.ends.EndReason.TheVariants as why
-use Rattle.multiplex.specs.declared.own_ticks.OwnTicks.{OwnTicks}
-use Rattle.multiplex.specs.declared.table.Guest.{Guest}
-use Rattle.multiplex.specs.declared.table.ClientTable.{ClientTable}
-use Rattle.multiplex.specs.declared.table.ServingOptions.{ServingOptions}
+use Rattle.multiplex.specs.Passing.{Change, NoSocket, TurnedAway, TakesLast, Unwatched, told_change}
+use Rattle.multiplex.specs.Passing.{Changes, Comes, Lobby, Shut, Enters, IsCause, guest, lobby}
+use Rattle.multiplex.specs.declared.{dear.DearTurns.DearTurns, own_ticks.OwnTicks.OwnTicks}
+use Rattle.multiplex.specs.declared.ends.{ServingEnd.ServingEnd, EndReason.EndReason}
+use Rattle.multiplex.specs.declared.table.{Guest.Guest, ClientTable.ClientTable}
+use Rattle.multiplex.specs.{declared.table.ServingOptions.ServingOptions, Noting.first_notes}
 use Rattle.multiplex.specs.model.Scenes.{AltersSome, ChangeAll, Empties, EndsLast, IsShut, Loses}
-use Rattle.multiplex.specs.model.Scenes.{Welcomes, told_changes}
-use Rattle.multiplex.specs.model.Visiting.{Sends}
+use Rattle.multiplex.specs.model.Scenes.{Welcomes, told_changes, lobby_of}
+use Rattle.multiplex.specs.{model.Visiting.Sends, Silence.waited_for, model.Tables.is_silent}
 use Rattle.answers.specs.Seen.{Seen}
-use Rattle.wire.specs.Ranges.{IsDifference}
-use Rattle.wire.specs.declared.standing.Difference.{Difference}
-use Rattle.multiplex.specs.Noting.{first_notes}
-use Rattle.multiplex.specs.model.Scenes.{lobby_of}
-use Rattle.multiplex.specs.Silence.{waited_for}
-use Rattle.multiplex.specs.model.Tables.{IsKept, IsLongestAt, KeepsAll, KeepsKept}
-use Rattle.multiplex.specs.model.Tables.{MakesRoom, is_silent}
+use Rattle.wire.specs.{Ranges.IsDifference, declared.standing.Difference.Difference}
+use Rattle.multiplex.specs.model.Tables.{IsKept, IsLongestAt, KeepsAll, KeepsKept, MakesRoom}
 use Rattle.multiplex.proofs.Placed.{all_back, all_both, all_front}
-use Rattle.polled.proofs.Telling.{Tells-as, Tells-trans}
 use Rattle.multiplex.proofs.Telling.{changes_told_both}
+use Rattle.multiplex.specs.declared.ends.EndReason.TheVariants as why
 
 pub lobby_same : {gs hs : List Guest} {n m s t : ℕ} {w v : OwnTicks} {x y : Bool}
-    {d e : Option Difference} {o p : Option ServingEnd}
-    → gs ≡ hs → n ≡ m → s ≡ t → w ≡ v → x ≡ y → d ≡ e → o ≡ p
-    → lobby gs n s w x d o ≡ lobby hs m t v y e p
+    {d e : Option Difference} {o p : Option ServingEnd} → gs ≡ hs → n ≡ m → s ≡ t → w ≡ v → x ≡ y
+    → d ≡ e → o ≡ p → lobby gs n s w x d o ≡ lobby hs m t v y e p
 lobby_same g n s w x d o = cc
 
 pub spent_same : (a b : DearTurns) → a ≡ b → a.spent ≡ b.spent
@@ -51,16 +39,13 @@ ChangeAll-trans home t a m b (c ∷ cs) ds h k =
     (h.0, h.1, ChangeAll-trans home t h.0 m b cs ds h.2 k)
 
 pub alters_none : {C : Type 0} (happened : C → Option (List Happened)) (home : Home)
-    (t : ServingOptions)
-    (table : ClientTable) (c later : C)
-    → Tells (happened c) (happened later) []
-    → AltersSome happened home t None table table c later
+    (t : ServingOptions) (table : ClientTable) (c later : C)
+    → Tells (happened c) (happened later) [] → AltersSome happened home t None table table c later
 alters_none happened home t table c later told = ([], record { changed = refl; told = told })
 
 pub alters_both : {C : Type 0} (happened : C → Option (List Happened)) (home : Home)
-    (t : ServingOptions)
-    (over : Option ServingEnd) (old mid new : ClientTable) (c between later : C)
-    → AltersSome happened home t None old mid c between
+    (t : ServingOptions) (over : Option ServingEnd) (old mid new : ClientTable)
+    (c between later : C) → AltersSome happened home t None old mid c between
     → AltersSome happened home t over mid new between later
     → AltersSome happened home t over old new c later
 alters_both happened home t over old mid new c between later h k = (
@@ -77,9 +62,8 @@ alters_both happened home t over old mid new c between later h k = (
 
 -- a change, before those that follow
 pub alters_after : {C : Type 0} (happened : C → Option (List Happened)) (home : Home)
-    (t : ServingOptions)
-    (over : Option ServingEnd) (one : Change) (old mid new : ClientTable) (c between later : C)
-    → Changes home t one (lobby_of old None) (lobby_of mid None)
+    (t : ServingOptions) (over : Option ServingEnd) (one : Change) (old mid new : ClientTable)
+    (c between later : C) → Changes home t one (lobby_of old None) (lobby_of mid None)
     → Tells (happened c) (happened between) (told_change one)
     → AltersSome happened home t over mid new between later
     → AltersSome happened home t over old new c later
@@ -95,9 +79,7 @@ alters_after happened home t over one old mid new c between later is told k = (
 
 shuts_one : {C : Type 0} (happened : C → Option (List Happened)) (home : Home) (t : ServingOptions)
     (w : EndReason) (over : Option ServingEnd) (old new : ClientTable) (c later : C)
-    (before after : List Guest)
-    (gone : Guest)
-    → IsCause t w (lobby_of old None) gone
+    (before after : List Guest) (gone : Guest) → IsCause t w (lobby_of old None) gone
     → Loses happened over old new c later before after gone
     → AltersSome happened home t over old new c later
 shuts_one happened home t w over old new c later before after gone cause h = (
@@ -129,8 +111,7 @@ pub shuts : {C : Type 0} (happened : C → Option (List Happened)) (home : Home)
     (w : EndReason) (place : ℕ) (over : Option ServingEnd) (old new : ClientTable) (c later : C)
     → ((before after : List Guest) (gone : Guest) → length before ≡ place
     → old.guests.items ≡ before ++ gone ∷ after → IsCause t w (lobby_of old None) gone)
-    → IsShut happened place over old new c later
-    → AltersSome happened home t over old new c later
+    → IsShut happened place over old new c later → AltersSome happened home t over old new c later
 shuts happened home t w place over old new c later cause h =
     shuts_one happened home t w over old new c later h.0 h.1 h.2
     (cause h.0 h.1 h.2 h.3 h.4.found) h.4
@@ -145,9 +126,8 @@ pub shut_keeps : {C : Type 0} (happened : C → Option (List Happened)) (place :
     → IsShut happened place over old new c later → KeepsAll old new
 shut_keeps happened place over old new c later h home wire kept = record {
   guests =
-      subst (λ z. AllByRecursion (IsKept home wire) z) (sym h.4.left)
-      (all_but (IsKept home wire) h.0 h.2 h.1
-      (subst (λ z. AllByRecursion (IsKept home wire) z) h.4.found kept.guests));
+      subst (λ z. AllByRecursion (IsKept home wire) z) (sym h.4.left) (all_but (IsKept home wire)
+      h.0 h.2 h.1 (subst (λ z. AllByRecursion (IsKept home wire) z) h.4.found kept.guests));
   differs = subst (λ z. IsDifference z) (sym h.4.differs) kept.differs;
 }
 
@@ -162,14 +142,10 @@ welcome_keeps happened home t random x old new c later most h kept = record {
   differs = subst (λ z. IsDifference z) (sym h.differs) kept.differs;
 }
   where
-    either :
-        ((new.guests.items
-        ≡ old.guests.items
-        ++ guest old.next (fresh_locked_connection t.doors random home t.wire)
-        (first_notes x) old.time ∷ [])
-        × Tells (happened c) (happened later) [])
-        ⊎ ((new.guests.items ≡ old.guests.items)
-        × Tells (happened c) (happened later) (Closed old.next ∷ []))
+    either : ((new.guests.items ≡ old.guests.items ++ guest old.next
+        (fresh_locked_connection t.doors random home t.wire) (first_notes x) old.time ∷ []) × Tells
+        (happened c) (happened later) []) ⊎ ((new.guests.items ≡ old.guests.items) × Tells
+        (happened c) (happened later) (Closed old.next ∷ []))
         → AllByRecursion (IsKept home t.wire) new.guests.items
     either (inl k) =
         subst (λ z. AllByRecursion (IsKept home t.wire) z) (sym k.0)
@@ -199,14 +175,10 @@ enters happened home t random x old new c between later wanted room told h = eit
           lobby_same is h.next h.time h.own (spent_same new.dear old.dear h.dear) h.differs refl;
     }
 
-    either :
-        ((new.guests.items
-        ≡ old.guests.items
-        ++ guest old.next (fresh_locked_connection t.doors random home t.wire)
-        (first_notes x) old.time ∷ [])
-        × Tells (happened between) (happened later) [])
-        ⊎ ((new.guests.items ≡ old.guests.items)
-        × Tells (happened between) (happened later) (Closed old.next ∷ []))
+    either : ((new.guests.items ≡ old.guests.items ++ guest old.next
+        (fresh_locked_connection t.doors random home t.wire) (first_notes x) old.time ∷ []) × Tells
+        (happened between) (happened later) []) ⊎ ((new.guests.items ≡ old.guests.items) × Tells
+        (happened between) (happened later) (Closed old.next ∷ []))
         → AltersSome happened home t None old new c later
     either (inl k) = (
       Comes old.next random ∷ [],
@@ -225,8 +197,7 @@ enters happened home t random x old new c between later wanted room told h = eit
     )
 
 pub no_socket : {C : Type 0} (happened : C → Option (List Happened)) (home : Home)
-    (t : ServingOptions)
-    (over : Option ServingEnd) (old new : ClientTable) (c between later : C)
+    (t : ServingOptions) (over : Option ServingEnd) (old new : ClientTable) (c between later : C)
     → Tells (happened c) (happened between) (Full ∷ [])
     → AltersSome happened home t over old new between later
     → AltersSome happened home t over old new c later
@@ -235,8 +206,7 @@ no_socket happened home t over old new c between later told k =
 
 -- the system refuses to name this one
 pub unwatched : {C : Type 0} (happened : C → Option (List Happened)) (home : Home)
-    (t : ServingOptions)
-    (k : ℕ) (table : ClientTable) (c between : C)
+    (t : ServingOptions) (k : ℕ) (table : ClientTable) (c between : C)
     → Tells (happened c) (happened between) (Broke k ∷ [])
     → AltersSome happened home t None table table c between
 unwatched happened home t k table c between told = (
@@ -245,8 +215,7 @@ unwatched happened home t k table c between told = (
 )
 
 pub may_watch : {C : Type 0} (happened : C → Option (List Happened)) (home : Home)
-    (t : ServingOptions)
-    (k : ℕ) (ok : Bool) (table : ClientTable) (c between : C)
+    (t : ServingOptions) (k : ℕ) (ok : Bool) (table : ClientTable) (c between : C)
     → Tells (happened c) (happened between) (watched k ok)
     → AltersSome happened home t None table table c between
 may_watch happened home t k true table c between told =
@@ -279,15 +248,10 @@ pub room_cause : (t : ServingOptions) (w : EndReason) (a : Lobby) (gone : Guest)
     → AllByRecursion (λ (o : Guest). gone.ready ≤ o.ready) a.guests → IsCause t w a gone
 room_cause t why.Crowded a gone going full longest = (going, full, longest)
 room_cause t why.NoSocket a gone going full longest = (going, longest)
-room_cause t why.Done a gone going full longest = absurd full
-room_cause t why.Ended a gone going full longest = absurd full
-room_cause t why.Broke a gone going full longest = absurd full
-room_cause t why.Silent a gone going full longest = absurd full
-room_cause t why.Over a gone going full longest = absurd full
+room_cause t _ a gone going full longest = absurd full
 
 pub silent_cause : (patience time : ℕ) (guests before : List Guest) (gone : Guest)
-    (after : List Guest) (i : ℕ)
-    → length before ≡ i → guests ≡ before ++ gone ∷ after
+    (after : List Guest) (i : ℕ) → length before ≡ i → guests ≡ before ++ gone ∷ after
     → position (is_silent patience time) guests ≡ Some i
     → waited_for patience (begun gone.talk) < time - gone.ready
 silent_cause patience time guests before gone after i len found is =
@@ -320,14 +284,12 @@ some_none over e = absurd cc
 
 -- what is told once a client was offered what is to be sent to it, and which guest it is then
 record Offered {C : Type 0} (happened : C → Option (List Happened)) (home : Home)
-    (t : ServingOptions)
-    (over : ServingEnd) (mid : ClientTable) (front : List Guest) (gone : Guest)
+    (t : ServingOptions) (over : ServingEnd) (mid : ClientTable) (front : List Guest) (gone : Guest)
     (c later : C) : Type 0 where
   guest : Guest
   number : guest.number ≡ gone.number
   changes : List Change
-  changed :
-      ChangeAll home t (over_with mid over (front ++ gone ∷ [])) changes
+  changed : ChangeAll home t (over_with mid over (front ++ gone ∷ [])) changes
       (over_with mid over (front ++ guest ∷ []))
   told : Tells (happened c) (happened later) (told_changes changes)
 
@@ -374,13 +336,11 @@ offered happened home t over mid front gone talk false c later k = record {
 
 -- one more was ended, of those that are still there the last one
 pub empties_more : {C : Type 0} (happened : C → Option (List Happened)) (home : Home)
-    (t : ServingOptions)
-    (over : ServingEnd) (old mid new : ClientTable) (gone : Guest) (talk : LockedConnectionOf)
-    (c between later : C)
-    → mid.guests.items ≡ new.guests.items ++ gone ∷ [] → new.next ≡ mid.next
-    → new.time ≡ mid.time → new.own ≡ mid.own → new.dear ≡ mid.dear → new.differs ≡ mid.differs
-    → Empties happened home t over old mid c between
-    → EndsLast happened between later gone talk
+    (t : ServingOptions) (over : ServingEnd) (old mid new : ClientTable) (gone : Guest)
+    (talk : LockedConnectionOf) (c between later : C)
+    → mid.guests.items ≡ new.guests.items ++ gone ∷ [] → new.next ≡ mid.next → new.time ≡ mid.time
+    → new.own ≡ mid.own → new.dear ≡ mid.dear → new.differs ≡ mid.differs
+    → Empties happened home t over old mid c between → EndsLast happened between later gone talk
     → Empties happened home t over old new c later
 empties_more happened home t over old mid new gone talk c between later last next time own dear
     differs h (end, ok, sends, closed) =
@@ -390,9 +350,8 @@ empties_more happened home t over old mid new gone talk c between later last nex
     lobby_same last refl refl refl refl refl refl in (
       h.0 ++ (o.changes ++ shut),
       ChangeAll-trans home t (lobby_of old (Some over)) (lobby_of mid (Some over))
-          (lobby_of new (Some over)) h.0 (o.changes ++ shut) h.1
-          (subst (λ l. ChangeAll home t l (o.changes ++ shut) (lobby_of new (Some over)))
-          (sym there)
+          (lobby_of new (Some over)) h.0 (o.changes ++ shut) h.1 (subst
+          (λ l. ChangeAll home t l (o.changes ++ shut) (lobby_of new (Some over))) (sym there)
           (ChangeAll-trans home t (over_with mid over (new.guests.items ++ gone ∷ []))
           (over_with mid over (new.guests.items ++ o.guest ∷ [])) (lobby_of new (Some over))
           o.changes shut o.changed (
@@ -413,20 +372,17 @@ empties_more happened home t over old mid new gone talk c between later last nex
             refl,
           ))),
       Tells-as (happened c) (happened later) _ _
-          (sym (changes_told_both h.0 (o.changes ++ shut)))
-          (Tells-trans (happened c) (happened between) (happened later) _ _ h.2
-          (Tells-as (happened between) (happened later) _ _
-          (sym (changes_told_both o.changes shut))
+          (sym (changes_told_both h.0 (o.changes ++ shut))) (Tells-trans (happened c)
+          (happened between) (happened later) _ _ h.2 (Tells-as (happened between) (happened later)
+          _ _ (sym (changes_told_both o.changes shut))
           (Tells-trans (happened between) (happened end) (happened later) _ _ o.told closed))),
     )
 
 pub empties_same : {C : Type 0} (happened : C → Option (List Happened)) (home : Home)
-    (t : ServingOptions)
-    (over : ServingEnd) (old mid new : ClientTable) (c later : C)
+    (t : ServingOptions) (over : ServingEnd) (old mid new : ClientTable) (c later : C)
     → mid.guests.items ≡ new.guests.items ++ [] → new.next ≡ mid.next → new.time ≡ mid.time
     → new.own ≡ mid.own → new.dear ≡ mid.dear → new.differs ≡ mid.differs
-    → Empties happened home t over old mid c later
-    → Empties happened home t over old new c later
+    → Empties happened home t over old mid c later → Empties happened home t over old new c later
 empties_same happened home t over old mid new c later items next time own dear differs h = (
   h.0,
   subst (λ l. ChangeAll home t (lobby_of old (Some over)) h.0 l)

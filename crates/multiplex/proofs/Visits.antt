@@ -1,52 +1,36 @@
 -- A client that was ready: its connection took turns, and stays, or was ended.
 use Rattle.std.proofs.Common.{◌≡◌, ◌≢◌, refl, sym, ap, subst, ◌∙◌, ℕ, List, [], ◌∷◌, ◌++◌}
 use Rattle.std.proofs.Common.{append_assoc, length, take, drop, get_or, set, suc, Option, None}
-use Rattle.std.proofs.Common.{Some}
-use Rattle.std.proofs.Common.{true, false, position, arith, ◌<◌, Bool, ◌↔◌}
-use Rattle.std.specs.List.{AllByRecursion}
-use Rattle.std.specs.Vec.{with_item}
-use Rattle.std.proofs.lemmas.Bool.{eqb-false, eqb-true}
-use Rattle.std.proofs.lemmas.List.Quantifiers.{position-Some}
-use Rattle.std.proofs.lemmas.List.{set_split}
+use Rattle.std.proofs.Common.{Some, true, false, position, arith, ◌<◌, Bool, ◌↔◌}
+use Rattle.std.{specs.List.AllByRecursion, specs.Vec.with_item, proofs.lemmas.Bool.eqb-true}
+use Rattle.std.proofs.lemmas.{Bool.eqb-false, List.Quantifiers.position-Some, List.set_split}
 use Rattle.answers.specs.declared.desk.Desk.{Ghosts as DeskOf}
-use Rattle.serving.specs.declared.peers.Peers.{Ghosts as PeersOf}
-use Rattle.serving.specs.TurnLaw.{Turn}
+use Rattle.serving.specs.{declared.peers.Peers.Ghosts as PeersOf, TurnLaw.Turn}
 use Rattle.guarded.specs.LockedTurns.{Follow}
 use Rattle.store.specs.declared.home.Home.{Home}
 use Rattle.wire.specs.Ranges.{IsDifference}
-use Rattle.wire.specs.declared.standing.Difference.{Difference}
-use Rattle.wire.specs.declared.values.Version.{Version}
-use Rattle.multiplex.specs.Noting.{AreNoted}
-use Rattle.polled.specs.Telling.{Tells}
-use Rattle.polled.specs.Happenings.{Happened, Closed}
-use Rattle.multiplex.specs.Passing.{Changed, IsLeft, Lobby, Shares, Stray, Takes, Visit, lobby}
-use Rattle.multiplex.specs.Passing.{over_after, over_by, over_settled, staying, told_turns}
-use Rattle.multiplex.specs.Passing.{told_why}
-use Rattle.multiplex.specs.declared.dear.DearTurns.{DearTurns}
-use Rattle.multiplex.specs.declared.ends.ServingEnd.{ServingEnd}
-use Rattle.multiplex.specs.declared.ends.ServingEnd.TheVariants as over_is
-use Rattle.multiplex.specs.declared.ends.EndReason.{EndReason}
-use Rattle.multiplex.specs.declared.ends.EndReason.TheVariants as why
-use Rattle.multiplex.specs.declared.table.Guest.{Guest}
-use Rattle.multiplex.specs.declared.table.ClientTable.{ClientTable}
-use Rattle.multiplex.specs.declared.table.ServingOptions.{ServingOptions}
-use Rattle.multiplex.specs.model.Scenes.{Answers, Hosts, IsShut, at_guest, lobby_of}
-use Rattle.multiplex.specs.Scenes.{Scene, in_room}
-use Rattle.multiplex.specs.model.Scenes.{room_of, turned}
-use Rattle.multiplex.specs.Scenes.{scene}
+use Rattle.wire.specs.declared.{standing.Difference.Difference, values.Version.Version}
+use Rattle.multiplex.specs.{Noting.AreNoted, model.Scenes.turned, model.Visiting.place_at}
+use Rattle.polled.specs.{Telling.Tells, Happenings.Happened, Happenings.Closed}
+use Rattle.multiplex.specs.Passing.{Changed, over_after, over_settled, told_turns, told_why}
+use Rattle.multiplex.specs.Passing.{Lobby, Stray, Takes, Visit, lobby, over_by, staying}
+use Rattle.multiplex.specs.declared.{dear.DearTurns.DearTurns, table.ServingOptions.ServingOptions}
+use Rattle.multiplex.specs.declared.ends.{ServingEnd.ServingEnd, EndReason.EndReason}
+use Rattle.multiplex.specs.declared.table.{Guest.Guest, ClientTable.ClientTable}
+use Rattle.multiplex.specs.model.Scenes.{Answers, Hosts, IsShut, at_guest, lobby_of, room_of}
+use Rattle.multiplex.specs.Scenes.{Scene, in_room, scene}
 use Rattle.multiplex.specs.model.Tables.{AreKept, IsKept, has_number}
-use Rattle.multiplex.specs.model.Visiting.{place_at}
 use Rattle.multiplex.proofs.Placed.{all_as, all_back, all_both, all_front, nowhere, split_at}
 use Rattle.multiplex.proofs.Shutting.{all_but, lobby_same, spent_same}
 use Rattle.polled.proofs.Telling.{Tells-as, Tells-nil, Tells-trans}
+use Rattle.multiplex.specs.declared.ends.ServingEnd.TheVariants as over_is
+use Rattle.multiplex.specs.declared.ends.EndReason.TheVariants as why
 
 -- ---- nobody has the number
 
 pub answers_nobody : {V U C : Type 0} (d : DeskOf V) (p : PeersOf U)
     (happened : C → Option (List Happened)) (home : Home) (t : ServingOptions) (k : ℕ)
-    (table : ClientTable)
-    (a : Scene V U C)
-    → position (has_number k) table.guests.items ≡ None
+    (table : ClientTable) (a : Scene V U C) → position (has_number k) table.guests.items ≡ None
     → Answers d p happened home t k None table table a a
 answers_nobody d p happened home t k table a none = (
   Changed (Stray k),
@@ -75,8 +59,7 @@ pub record About (table : ClientTable) (place : ℕ) (old new : Guest) (before a
   pub front : length before ≡ place
 
 pub about : (table : ClientTable) (place : ℕ) (old new : Guest)
-    → place < length table.guests.items
-    → old ≡ get_or table.guests.items place old
+    → place < length table.guests.items → old ≡ get_or table.guests.items place old
     → (before : List Guest) × (after : List Guest) × About table place old new before after
 about table place old new within is =
     let guests = table.guests.items in
@@ -98,22 +81,19 @@ abbrev pub Visiting : {V U C : Type 0} → DeskOf V → PeersOf U → (C → Opt
     → Home → ServingOptions → ℕ → Option EndReason → ClientTable → Lobby → Scene V U C → Scene V U C
     → Type 0
 Visiting d p happened home t k fate table left a m =
-    (turns : List Turn)
-    × Takes home t (Visit k turns fate) (room_of d p t.wire table None a)
-    (in_room d p t.wire left m)
-    × Tells (happened a.clients) (happened m.clients) (told_turns k turns ++ told_why k fate)
+    (turns : List Turn) × Takes home t (Visit k turns fate) (room_of d p t.wire table None a)
+    (in_room d p t.wire left m) × Tells (happened a.clients) (happened m.clients)
+    (told_turns k turns ++ told_why k fate)
 
 pub visiting : {V U C : Type 0} (d : DeskOf V) (p : PeersOf U)
     (happened : C → Option (List Happened)) (home : Home) (t : ServingOptions) (k : ℕ)
-    (fate : Option EndReason)
-    (table : ClientTable) (old new : Guest) (before after : List Guest) (left : Lobby)
-    (a m : Scene V U C)
-    → table.guests.items ≡ before ++ old ∷ after → old.number ≡ k → old.talk.talk.wire ≡ t.wire
+    (fate : Option EndReason) (table : ClientTable) (old new : Guest) (before after : List Guest)
+    (left : Lobby) (a m : Scene V U C) → table.guests.items ≡ before ++ old ∷ after → old.number ≡ k
+    → old.talk.talk.wire ≡ t.wire
     → Hosts d p happened table.time fate (turned table.dear.spent table.differs)
     (turned left.spent left.differs) old new a m
-    → left
-    ≡ lobby (before ++ (staying fate new ++ after)) table.next table.time table.own left.spent
-    left.differs (over_after fate new.talk)
+    → left ≡ lobby (before ++ (staying fate new ++ after)) table.next table.time table.own
+    left.spent left.differs (over_after fate new.talk)
     → Visiting d p happened home t k fate table left a m
 visiting d p happened home t k fate table old new before after left a m found number wire h is =
     let goes = h.1.1 in (
@@ -128,8 +108,7 @@ visiting d p happened home t k fate table old new before after left a m found nu
           found = found;
           number = number;
           follow =
-              subst
-              (λ w. Follow (place_at d p w (at_guest a old)) goes.0
+              subst (λ w. Follow (place_at d p w (at_guest a old)) goes.0
               (place_at d p w (at_guest m new))) wire goes.1.follow;
           once = goes.1.few;
           shares =
@@ -166,9 +145,8 @@ pub answers_stay : {V U C : Type 0} (d : DeskOf V) (p : PeersOf U)
     → Answers d p happened home t k None table changed a m
 answers_stay d p happened home t k place table changed old new before after a m split number wire
     items next time own h =
-    let v =
-    visiting d p happened home t k None table old new before after (lobby_of changed None) a m
-    split.found number wire h (lobby_same (items ∙ split.put) next time own refl refl refl) in
+    let v = visiting d p happened home t k None table old new before after (lobby_of changed None) a
+    m split.found number wire h (lobby_same (items ∙ split.put) next time own refl refl refl) in
     (Visit k v.0 None, told_turns k v.0 ++ [], refl, v.1, v.2)
 
 pub stay_keeps : {V U C : Type 0} (d : DeskOf V) (p : PeersOf U)
@@ -178,8 +156,7 @@ pub stay_keeps : {V U C : Type 0} (d : DeskOf V) (p : PeersOf U)
     → changed.guests.items ≡ set table.guests.items place new
     → Hosts d p happened table.time None (turned table.dear.spent table.differs)
     (turned changed.dear.spent changed.differs) old new a m
-    → AreNoted new.notes.known changed.differs
-    → AreKept home wire table → AreKept home wire changed
+    → AreNoted new.notes.known changed.differs → AreKept home wire table → AreKept home wire changed
 stay_keeps d p happened home wire place table changed old new before after a m split items h noted
     kept =
     let all = subst (λ z. AllByRecursion (IsKept home wire) z) split.found kept.guests in
@@ -224,8 +201,7 @@ split_same (z ∷ b) (w ∷ c) x y r s h l =
 -- the connection at the place was ended behind the turns
 pub record Leaving {C : Type 0} (happened : C → Option (List Happened)) (over : Option ServingEnd)
     (table mid changed : ClientTable) (k : ℕ) (new : Guest) (before after : List Guest)
-    (c later : C)
-    : Type 0 where
+    (c later : C) : Type 0 where
   pub left : lobby_of changed over
       ≡ lobby (before ++ after) table.next table.time table.own mid.dear.spent mid.differs
       (over_by new.talk.talk.end)
@@ -233,22 +209,17 @@ pub record Leaving {C : Type 0} (happened : C → Option (List Happened)) (over 
 
 pub leaving : {C : Type 0} (happened : C → Option (List Happened)) (place : ℕ)
     (over : Option ServingEnd) (table mid changed : ClientTable) (old new : Guest)
-    (before after : List Guest)
-    (c later : C)
-    → About table place old new before after
+    (before after : List Guest) (c later : C) → About table place old new before after
     → mid.guests.items ≡ set table.guests.items place new → mid.next ≡ table.next
-    → mid.time ≡ table.time → mid.own ≡ table.own
-    → IsShut happened place over mid changed c later
+    → mid.time ≡ table.time → mid.own ≡ table.own → IsShut happened place over mid changed c later
     → Leaving happened over table mid changed new.number new before after c later
 leaving happened place over table mid changed old new before after c later split items next time own
     h =
-    let same =
-    split_same h.0 before h.2 new h.1 after (sym h.4.found ∙ items ∙ split.put)
+    let same = split_same h.0 before h.2 new h.1 after (sym h.4.found ∙ items ∙ split.put)
     (h.3 ∙ sym split.front) in
     record {
       left =
-          lobby_same
-          (h.4.left ∙ ap (λ z. z ++ h.1) same.fronts ∙ ap (λ z. before ++ z) same.backs)
+          lobby_same (h.4.left ∙ ap (λ z. z ++ h.1) same.fronts ∙ ap (λ z. before ++ z) same.backs)
           (h.4.next ∙ next) (h.4.time ∙ time) (h.4.own ∙ own)
           (spent_same changed.dear mid.dear h.4.dear) h.4.differs
           (h.4.ends ∙ ap (λ (z : Guest). over_by z.talk.talk.end) same.here);
@@ -259,35 +230,28 @@ leaving happened place over table mid changed old new before after c later split
 
 pub answers_leave : {V U C : Type 0} (d : DeskOf V) (p : PeersOf U)
     (happened : C → Option (List Happened)) (home : Home) (t : ServingOptions) (k : ℕ)
-    (w : EndReason)
-    (place : ℕ) (over : Option ServingEnd) (table mid changed : ClientTable) (old new : Guest)
-    (before after : List Guest) (a : Scene V U C) (node : V) (peers : U) (c later : C)
-    → About table place old new before after → old.number ≡ k → old.talk.talk.wire ≡ t.wire
-    → mid.guests.items ≡ set table.guests.items place new → mid.next ≡ table.next
-    → mid.time ≡ table.time → mid.own ≡ table.own
+    (w : EndReason) (place : ℕ) (over : Option ServingEnd) (table mid changed : ClientTable)
+    (old new : Guest) (before after : List Guest) (a : Scene V U C) (node : V) (peers : U)
+    (c later : C) → About table place old new before after → old.number ≡ k
+    → old.talk.talk.wire ≡ t.wire → mid.guests.items ≡ set table.guests.items place new
+    → mid.next ≡ table.next → mid.time ≡ table.time → mid.own ≡ table.own
     → Hosts d p happened table.time (Some w) (turned table.dear.spent table.differs)
     (turned mid.dear.spent mid.differs) old new a (scene node peers c)
     → IsShut happened place over mid changed c later
     → Answers d p happened home t k over table changed a (scene node peers later)
 answers_leave d p happened home t k w place over table mid changed old new before after a node
     peers c later split number wire items next time own h shut =
-    let gone =
-    leaving happened place over table mid changed old new before after c later split items next
-    time own shut in
-    let same : changed.dear.spent ≡ mid.dear.spent =
-    ap (λ (l : Lobby). l.spent) gone.left in
+    let gone = leaving happened place over table mid changed old new before after c later split
+    items next time own shut in
+    let same : changed.dear.spent ≡ mid.dear.spent = ap (λ (l : Lobby). l.spent) gone.left in
     let said : changed.differs ≡ mid.differs = ap (λ (l : Lobby). l.differs) gone.left in
-    let v =
-    visiting d p happened home t k (Some w) table old new before after (lobby_of changed over)
-    a (scene node peers c) split.found number wire
-    (subst
-    (λ s. Hosts d p happened table.time (Some w) (turned table.dear.spent table.differs)
+    let v = visiting d p happened home t k (Some w) table old new before after
+    (lobby_of changed over) a (scene node peers c) split.found number wire
+    (subst (λ s. Hosts d p happened table.time (Some w) (turned table.dear.spent table.differs)
     (turned s changed.differs) old new a (scene node peers c)) (sym same)
-    (subst
-    (λ s. Hosts d p happened table.time (Some w) (turned table.dear.spent table.differs)
+    (subst (λ s. Hosts d p happened table.time (Some w) (turned table.dear.spent table.differs)
     (turned mid.dear.spent s) old new a (scene node peers c)) (sym said) h))
-    (gone.left
-    ∙ lobby_same refl refl refl refl (sym same) (sym said) refl) in
+    (gone.left ∙ lobby_same refl refl refl refl (sym same) (sym said) refl) in
     let closed =
     subst (λ n. Tells (happened c) (happened later) (Closed n ∷ [])) (h.0.number ∙ number)
     gone.told in (
@@ -302,18 +266,15 @@ answers_leave d p happened home t k w place over table mid changed old new befor
 
 pub leave_keeps : {C : Type 0} (happened : C → Option (List Happened)) (home : Home)
     (wire : Version) (place : ℕ) (over : Option ServingEnd) (table mid changed : ClientTable)
-    (old new : Guest)
-    (before after : List Guest) (c later : C)
-    → About table place old new before after
-    → mid.guests.items ≡ set table.guests.items place new → mid.next ≡ table.next
-    → mid.time ≡ table.time → mid.own ≡ table.own
+    (old new : Guest) (before after : List Guest) (c later : C)
+    → About table place old new before after → mid.guests.items ≡ set table.guests.items place new
+    → mid.next ≡ table.next → mid.time ≡ table.time → mid.own ≡ table.own
     → IsShut happened place over mid changed c later → IsDifference mid.differs
     → AreKept home wire table → AreKept home wire changed
 leave_keeps happened home wire place over table mid changed old new before after c later split
     items next time own shut differs kept =
-    let gone =
-    leaving happened place over table mid changed old new before after c later split items next
-    time own shut in
+    let gone = leaving happened place over table mid changed old new before after c later split
+    items next time own shut in
     record {
       guests =
           subst (λ (l : Lobby). AllByRecursion (IsKept home wire) l.guests) (sym gone.left)
@@ -324,8 +285,7 @@ leave_keeps happened home wire place over table mid changed old new before after
 
 -- ---- what was changed is settled then
 
-pub over_on : (ok : Bool) → ((ok ≡ false) ↔ (None ≡ Some why.Over))
-    → None ≡ over_settled ok None
+pub over_on : (ok : Bool) → ((ok ≡ false) ↔ (None ≡ Some why.Over)) → None ≡ over_settled ok None
 over_on true h = refl
 over_on false h = let n : None ≡ Some why.Over = h.0 refl in absurd cc
 
@@ -343,8 +303,7 @@ over_down ok w over h is = ap (λ z. over_settled z over) (sym (h.1 (ap Some is)
 -- ---- where a client stands that has this number
 
 pub record Stands (home : Home) (wire : Version) (k : ℕ) (table : ClientTable) (place : ℕ)
-    (old : Guest)
-    : Type 0 where
+    (old : Guest) : Type 0 where
   pub within : place < length table.guests.items
   pub number : old.number ≡ k
   pub same : old.talk.talk.wire ≡ wire
@@ -357,8 +316,7 @@ stands home wire k table place old found is kept =
     let guests = table.guests.items in
     let here = position-Some (has_number k) guests place old found in
     let split = about table place old old here.0 is in
-    let both =
-    all_back (IsKept home wire) split.0 (old ∷ split.1)
+    let both = all_back (IsKept home wire) split.0 (old ∷ split.1)
     (subst (λ z. AllByRecursion (IsKept home wire) z) split.2.found kept.guests) in
     record {
       within = here.0;

@@ -1,58 +1,40 @@
 -- The turns of one connection, one after the other.
 use Rattle.std.proofs.Common.{◌≡◌, ◌≢◌, ◌⊎◌, inl, inr, refl, sym, ap, subst, ◌∙◌, ℕ, ◌+◌, Bool}
-use Rattle.std.proofs.Common.{true}
-use Rattle.std.proofs.Common.{arith, ◌<◌, suc, ◌↔◌, ◌||◌, if◌then◌else◌}
+use Rattle.std.proofs.Common.{true, arith, ◌<◌, suc, ◌↔◌, ◌||◌, if◌then◌else◌, false, List, [], ◌∷◌}
+use Rattle.std.proofs.Common.{◌++◌, append-nil, append_assoc, length, Option, None, Some}
 use Rattle.std.specs.Prelude.{IsTrue, not}
-use Rattle.std.proofs.Common.{false, List, [], ◌∷◌, ◌++◌, append-nil, append_assoc, length, Option}
-use Rattle.std.proofs.Common.{None, Some}
-use Rattle.answers.specs.declared.desk.Desk.{Ghosts as DeskOf}
-use Rattle.serving.specs.declared.peers.Peers.{Ghosts as PeersOf}
-use Rattle.answers.specs.Seen.{Seen}
+use Rattle.answers.specs.{declared.desk.Desk.Ghosts as DeskOf, Seen.Seen}
+use Rattle.serving.specs.declared.{peers.Peers.Ghosts as PeersOf, ends.ConnectionEnd.ConnectionEnd}
 use Rattle.sealed.specs.ServerSeals.{caller_of, is_over}
 use Rattle.store.specs.declared.home.Home.{Home}
-use Rattle.wire.specs.declared.standing.Difference.{Difference}
-use Rattle.serving.specs.Making.{Way}
-use Rattle.serving.specs.Sessions.{outside}
-use Rattle.serving.specs.Turns.{Talk, broken_by, ended}
-use Rattle.serving.specs.Turns as Turns
-use Rattle.serving.specs.Connection.{Begun, serve_frame}
+use Rattle.wire.specs.declared.{standing.Difference.Difference, fault.WireFault.WireFault}
+use Rattle.serving.specs.{Making.Way, Sessions.outside, Turns.Talk, Differing.known_after}
+use Rattle.serving.specs.{Turns.broken_by, declared.differing.AwaitRequest.AwaitRequest}
+use Rattle.serving.specs.{Turns.ended, Connection.Begun, Connection.serve_frame}
 use Rattle.serving.specs.Differing.{awaited_by, differs_by, first_difference, first_frame}
-use Rattle.serving.specs.Differing.{known_after}
-use Rattle.serving.specs.declared.differing.AwaitRequest.{AwaitRequest}
-use Rattle.serving.specs.declared.ends.ConnectionEnd.{ConnectionEnd}
 use Rattle.serving.specs.Kinds.{dear_next, is_dear, message_next}
 use Rattle.serving.specs.TurnLaw.{Came as CameIn, Began, Rested, Took as TookOf, Turn, begun_in}
 use Rattle.guarded.specs.LockedConnections.{Advances, Answers, LockedConnectionOf, HearsDesk}
-use Rattle.guarded.specs.LockedConnections.{IsDear, IsDone, IsFree}
-use Rattle.guarded.specs.LockedConnections.{Receives, Rests}
-use Rattle.guarded.specs.LockedConnections.{WantsRead, after_sent, moment}
-use Rattle.guarded.specs.LockedTurns.{Follow, Place}
-use Rattle.guarded.specs.Permitting.{permission_of}
-use Rattle.wire.specs.declared.fault.WireFault.{WireFault}
+use Rattle.guarded.specs.LockedConnections.{IsDear, IsDone, IsFree, Receives, Rests, WantsRead}
+use Rattle.guarded.specs.LockedConnections.{after_sent, moment}
+use Rattle.guarded.specs.{LockedTurns.Follow, LockedTurns.Place, Permitting.permission_of}
 use Rattle.wire.specs.declared.frame.Frame.{Frame}
-use Rattle.polled.specs.Telling.{Tells}
-use Rattle.polled.specs.Happenings.{Happened, Gave, Took}
+use Rattle.polled.specs.{Telling.Tells, Happenings.Happened, Happenings.Gave, Happenings.Took}
 use Rattle.multiplex.specs.Passing.{AreMessages, IsFate, IsLeft, Settled, Shares, SharesLast}
 use Rattle.multiplex.specs.Passing.{SharesOne, pieces, told_turns, told_why}
-use Rattle.multiplex.specs.declared.ends.EndReason.{EndReason}
-use Rattle.multiplex.specs.declared.ends.EndReason.TheVariants as why
-use Rattle.multiplex.specs.Dear.{answered, asked, is_next, put_off}
-use Rattle.multiplex.specs.declared.dear.DearTurns.{DearTurns}
-use Rattle.multiplex.specs.Noting.{AreDue, Ears, IsDueFrame, IsOff, PutsOff, awaited_of, ears}
-use Rattle.multiplex.specs.Noting.{hear, hear_all, heard_by, heard_next, is_due, listened}
-use Rattle.multiplex.specs.Noting.{listened_to, next_of, off_by, until_of}
-use Rattle.multiplex.specs.Noting.{put_off as puts_off}
-use Rattle.multiplex.specs.declared.notes.Notes.{Notes}
-use Rattle.multiplex.specs.model.Visiting.{BeginsDue, Beholds, Beside, Goes, HearsDesks}
-use Rattle.multiplex.specs.model.Visiting.{HasBegun, IsLeftOrDone, MayBegin, MayShare, Moves, Reads}
-use Rattle.multiplex.specs.model.Visiting.{beside}
+use Rattle.multiplex.specs.declared.{ends.EndReason.EndReason, dear.DearTurns.DearTurns}
+use Rattle.multiplex.specs.{Dear.answered, Dear.asked, Dear.is_next, declared.notes.Notes.Notes}
+use Rattle.multiplex.{specs.Dear.put_off, proofs.Noted.next_free, proofs.Telling.turns_both}
+use Rattle.multiplex.specs.Noting.{AreDue, Ears, IsDueFrame, IsOff, PutsOff, awaited_of, ears, hear}
+use Rattle.multiplex.specs.Noting.{hear_all, heard_by, heard_next, is_due, listened, listened_to}
+use Rattle.multiplex.specs.Noting.{next_of, off_by, until_of, put_off as puts_off}
+use Rattle.multiplex.specs.model.Visiting.{BeginsDue, Beholds, Beside, Goes, HearsDesks, HasBegun}
+use Rattle.multiplex.specs.model.Visiting.{IsLeftOrDone, MayBegin, MayShare, Moves, Reads, beside}
 use Rattle.multiplex.specs.model.Visiting.{Sends, ServesNext, ServesOne, SettledOrDone, Spot}
-use Rattle.multiplex.specs.model.Visiting.{TalksOn}
-use Rattle.multiplex.specs.model.Visiting.{broken}
-use Rattle.multiplex.specs.model.Visiting.{place_at, spot}
+use Rattle.multiplex.specs.model.Visiting.{TalksOn, broken, place_at, spot}
 use Rattle.polled.proofs.Telling.{Tells-as, Tells-nil, Tells-trans}
-use Rattle.multiplex.proofs.Noted.{next_free}
-use Rattle.multiplex.proofs.Telling.{turns_both}
+use Rattle.serving.specs.Turns as Turns
+use Rattle.multiplex.specs.declared.ends.EndReason.TheVariants as why
 
 pub Follow-trans : {V : Type 0} {way : Way V} (a m b : Place way) (ts us : List Turn)
     → Follow a ts m → Follow m us b → Follow a (ts ++ us) b
@@ -81,27 +63,23 @@ begun_both (Rested ∷ ts) us = begun_both ts us
 begun_both (TookOf bytes ∷ ts) us = begun_both ts us
 
 pub goes_both : {V U C : Type 0} (d : DeskOf V) (p : PeersOf U)
-    (happened : C → Option (List Happened)) (k : ℕ) (cause : Option EndReason)
-    (n q : ℕ) (xs ys : List Begun)
-    (a m b : Spot V U C)
-    → Goes d p happened k None n xs a m → Goes d p happened k cause q ys m b
-    → Goes d p happened k cause (n + q) (xs ++ ys) a b
+    (happened : C → Option (List Happened)) (k : ℕ) (cause : Option EndReason) (n q : ℕ)
+    (xs ys : List Begun) (a m b : Spot V U C) → Goes d p happened k None n xs a m
+    → Goes d p happened k cause q ys m b → Goes d p happened k cause (n + q) (xs ++ ys) a b
 goes_both d p happened k cause n q xs ys a m b h g = (
   h.0 ++ g.0,
   record {
     few = omega (arith, pieces_both h.0 g.0, h.1.few, g.1.few);
     begins =
-        begun_both h.0 g.0 ∙ ap (λ z. z ++ begun_in g.0) h.1.begins
-        ∙ ap (λ z. xs ++ z) g.1.begins;
+        begun_both h.0 g.0 ∙ ap (λ z. z ++ begun_in g.0) h.1.begins ∙ ap (λ z. xs ++ z) g.1.begins;
     follow =
         Follow-trans (place_at d p a.talk.talk.wire a) (place_at d p a.talk.talk.wire m)
         (place_at d p a.talk.talk.wire b) h.0 g.0 h.1.follow
         (subst (λ w. Follow (place_at d p w m) g.0 (place_at d p w b)) h.1.wire g.1.follow);
     told =
         Tells-as (happened a.clients) (happened b.clients) _ _
-        (told_both k h.0 g.0 (told_why k cause))
-        (Tells-trans (happened a.clients) (happened m.clients) (happened b.clients) _ _
-        h.1.told g.1.told);
+        (told_both k h.0 g.0 (told_why k cause)) (Tells-trans (happened a.clients)
+        (happened m.clients) (happened b.clients) _ _ h.1.told g.1.told);
     home = g.1.home ∙ h.1.home;
     wire = g.1.wire ∙ h.1.wire;
   },
@@ -128,14 +106,12 @@ goes_as d p happened k w most begun a b untold h = (
 
 -- no turn was taken, since this failed, or nothing did
 pub no_turn : {V U C : Type 0} (d : DeskOf V) (p : PeersOf U)
-    (happened : C → Option (List Happened)) (k : ℕ) (cause : Option EndReason)
-    (most : ℕ) (node : V)
-    (peers : U) (c later : C) (old new : LockedConnectionOf)
-    → new ≡ old → Tells (happened c) (happened later) (told_why k cause)
+    (happened : C → Option (List Happened)) (k : ℕ) (cause : Option EndReason) (most : ℕ) (node : V)
+    (peers : U) (c later : C) (old new : LockedConnectionOf) → new ≡ old
+    → Tells (happened c) (happened later) (told_why k cause)
     → Goes d p happened k cause most [] (spot node peers c old) (spot node peers later new)
 no_turn d p happened k cause most node peers c later old new is told =
-    subst
-    (λ t. Goes d p happened k cause most [] (spot node peers c old) (spot node peers later t))
+    subst (λ t. Goes d p happened k cause most [] (spot node peers c old) (spot node peers later t))
     (sym is) (
       [],
       record {
@@ -149,11 +125,9 @@ no_turn d p happened k cause most node peers c later old new is told =
     )
 
 pub took : {V U C : Type 0} (d : DeskOf V) (p : PeersOf U)
-    (happened : C → Option (List Happened)) (k : ℕ) (most : ℕ) (node : V)
-    (peers : U) (c later : C)
-    (old new : LockedConnectionOf) (bytes : List ℕ)
-    → old.output ≡ bytes ++ new.output → new ≡ after_sent old (length bytes)
-    → Tells (happened c) (happened later) (Took k bytes ∷ [])
+    (happened : C → Option (List Happened)) (k : ℕ) (most : ℕ) (node : V) (peers : U) (c later : C)
+    (old new : LockedConnectionOf) (bytes : List ℕ) → old.output ≡ bytes ++ new.output
+    → new ≡ after_sent old (length bytes) → Tells (happened c) (happened later) (Took k bytes ∷ [])
     → Goes d p happened k None most [] (spot node peers c old) (spot node peers later new)
 took d p happened k most node peers c later old new bytes parts is told = (
   TookOf bytes ∷ [],
@@ -199,10 +173,8 @@ after_answer served old new (inr h) = record {
 }
 
 pub came : {V U C : Type 0} (d : DeskOf V) (p : PeersOf U)
-    (happened : C → Option (List Happened)) (k : ℕ) (node : V) (peers : U)
-    (c later : C)
-    (old new : LockedConnectionOf) (piece : List ℕ)
-    → WantsRead old → Receives piece old new
+    (happened : C → Option (List Happened)) (k : ℕ) (node : V) (peers : U) (c later : C)
+    (old new : LockedConnectionOf) (piece : List ℕ) → WantsRead old → Receives piece old new
     → Tells (happened c) (happened later) (Gave k piece ∷ [])
     → Goes d p happened k None 1 [] (spot node peers c old) (spot node peers later new)
 came d p happened k node peers c later old new piece wants reads told = (
@@ -236,8 +208,7 @@ begun_by d p differs false node next peers more old new h = []
 
 pub advanced : {V U C : Type 0} (d : DeskOf V) (p : PeersOf U)
     (happened : C → Option (List Happened)) (k : ℕ) (most : ℕ) (differs : Option Difference)
-    (went : Bool) (node next : V)
-    (peers more : U) (c : C) (old new : LockedConnectionOf)
+    (went : Bool) (node next : V) (peers more : U) (c : C) (old new : LockedConnectionOf)
     → (h : Advances d p differs went (moment node peers old) (moment next more new))
     → Goes d p happened k None most (begun_by d p differs went node next peers more old new h)
     (spot node peers c old) (spot next more c new)
@@ -280,8 +251,7 @@ advanced d p happened k most differs false node next peers more c old new h = (
 
 -- a frame that is begun is the one that was asked about
 is_asked : {V U : Type 0} (d : DeskOf V) (p : PeersOf U) (differs : Option Difference)
-    (node next : V) (peers more : U)
-    (old new : LockedConnectionOf)
+    (node next : V) (peers more : U) (old new : LockedConnectionOf)
     (h : Advances d p differs true (moment node peers old) (moment next more new))
     → is_dear h.2.0.frame.what ≡ true → IsDear old
 is_asked d p differs node next peers more old new h is =
@@ -295,8 +265,7 @@ is_begun old new dear (inr h) =
 
 -- a frame was begun, or none, that asks for nothing dear
 pub shares_cheap : {V U : Type 0} (d : DeskOf V) (p : PeersOf U) (differs : Option Difference)
-    (went : Bool) (node next : V)
-    (peers more : U) (old new : LockedConnectionOf) (spent : Bool)
+    (went : Bool) (node next : V) (peers more : U) (old new : LockedConnectionOf) (spent : Bool)
     (h : Advances d p differs went (moment node peers old) (moment next more new))
     → (IsDear old → ⊥)
     → SharesLast (begun_by d p differs went node next peers more old new h) spent spent
@@ -328,8 +297,7 @@ unfree fed (x ∷ xs) g starved is busy =
     inl (inl (λ e. let n : [] ≡ x ∷ xs = sym e ∙ is in absurd cc))
 unfree true [] g starved is busy = inr (record { over = inl starved; taken = is })
 unfree false [] g starved is busy =
-    inr
-    (record {
+    inr (record {
       over = inr (inl (λ e. busy (record { fed = starved; unended = e; taken = is })));
       taken = is;
     })
@@ -348,16 +316,13 @@ run_out : (f : Option WireFault) (old : LockedConnectionOf) (new : Talk) → old
 run_out None old new is fed taken h =
     let t = ended old.talk (broken_by old.talk.stream.fault) in
     subst (λ (z : Talk). SettledOrDone (record old { talk = z })) (sym h.ends)
-    (run_dry (is_over old.called) (record old { talk = t }) refl fed taken
-    (record {
+    (run_dry (is_over old.called) (record old { talk = t }) refl fed taken (record {
       free = record { unended = ap broken_by is; taken = h.free.taken };
       served = h.served;
       unbroken = is;
     }))
 run_out (Some e) old new is fed taken h =
-    subst (λ (z : Talk). SettledOrDone (record old { talk = z })) (sym h.ends)
-    (inr
-    (record {
+    subst (λ (z : Talk). SettledOrDone (record old { talk = z })) (sym h.ends) (inr (record {
       over = inr (inl (λ n. some_not (sym (ap broken_by is) ∙ n)));
       taken = taken;
     }))
@@ -374,10 +339,8 @@ at_rest old new (inr h) =
     (run_out old.talk.stream.fault old new.talk refl h.free.fed h.free.taken h.talk)
 
 pub after_send : {V U C : Type 0} (d : DeskOf V) (p : PeersOf U)
-    (happened : C → Option (List Happened)) (k : ℕ) (most : ℕ) (ok : Bool)
-    (node : V) (peers : U)
-    (c later : C) (old new : LockedConnectionOf)
-    → Sends happened k ok c later old new
+    (happened : C → Option (List Happened)) (k : ℕ) (most : ℕ) (ok : Bool) (node : V) (peers : U)
+    (c later : C) (old new : LockedConnectionOf) → Sends happened k ok c later old new
     → Goes d p happened k (broken ok) most [] (spot node peers c old) (spot node peers later new)
 after_send d p happened k most true node peers c later old new (inl h) =
     took d p happened k most node peers c later old new h.0 h.1 h.2 h.3
@@ -387,10 +350,9 @@ after_send d p happened k most false node peers c later old new h =
     no_turn d p happened k (Some why.Broke) most node peers c later old new h.0 h.1
 
 pub after_read : {V U C : Type 0} (d : DeskOf V) (p : PeersOf U)
-    (happened : C → Option (List Happened)) (k : ℕ) (cause : Option EndReason)
-    (node : V) (peers : U)
-    (c later : C) (old new : LockedConnectionOf)
-    → WantsRead old → Reads happened k cause c later old new
+    (happened : C → Option (List Happened)) (k : ℕ) (cause : Option EndReason) (node : V)
+    (peers : U) (c later : C) (old new : LockedConnectionOf) → WantsRead old
+    → Reads happened k cause c later old new
     → Goes d p happened k cause 1 [] (spot node peers c old) (spot node peers later new)
 after_read d p happened k None node peers c later old new wants (inl h) =
     came d p happened k node peers c later old new h.0 wants h.1 h.2
@@ -400,9 +362,8 @@ after_read d p happened k (Some w) node peers c later old new wants h =
     no_turn d p happened k (Some w) 1 node peers c later old new h.0 h.1
 
 pub after_move : {V U C : Type 0} (d : DeskOf V) (p : PeersOf U)
-    (happened : C → Option (List Happened)) (k : ℕ) (cause : Option EndReason)
-    (node : V) (peers : U)
-    (c later : C) (old new : LockedConnectionOf)
+    (happened : C → Option (List Happened)) (k : ℕ) (cause : Option EndReason) (node : V)
+    (peers : U) (c later : C) (old new : LockedConnectionOf)
     → Moves happened k cause c later old new
     → Goes d p happened k cause 1 [] (spot node peers c old) (spot node peers later new)
 after_move d p happened k cause node peers c later old new (inl h) =
@@ -434,16 +395,14 @@ fresh_of true b is = absurd cc
 fresh_of false b is = refl
 
 pub may_by : (number : ℕ) (has_key : Bool) (old new : DearTurns) (result : Bool)
-    (c : LockedConnectionOf)
-    → IsDear c → result ≡ is_next number has_key old → new ≡ asked number has_key old
-    → MayShare result c old.spent new.spent
+    (c : LockedConnectionOf) → IsDear c → result ≡ is_next number has_key old
+    → new ≡ asked number has_key old → MayShare result c old.spent new.spent
 may_by number has_key old new true c dear is after =
     inr (
       dear,
       fresh_of old.spent _ is,
       ap (λ (d : DearTurns). d.spent) after
-          ∙ ap
-          (λ b. (if b then answered number old else put_off has_key old).spent) (sym is),
+          ∙ ap (λ b. (if b then answered number old else put_off has_key old).spent) (sym is),
     )
 may_by number has_key old new false c dear is after = (
   dear,
@@ -457,8 +416,7 @@ may_cheap c spent h = inl (λ dear. let n : false ≡ true = h.1 dear in absurd 
 
 -- why no frame is begun
 stays_off : (off : Bool) (home : Home) (x : Seen) (time : ℕ) (c : LockedConnectionOf)
-    (old new : Notes)
-    (spent later : Bool) → PutsOff off home x time c old new
+    (old new : Notes) (spent later : Bool) → PutsOff off home x time c old new
     → ((off ≡ true) × (false ≡ false) × (later ≡ spent))
     ⊎ ((off ≡ false) × MayShare false c spent later)
     → (later ≡ spent) × (IsDear c ⊎ IsOff x time c new.until)
@@ -470,15 +428,13 @@ stays_off false home x time c old new spent later p (inl h) =
 stays_off false home x time c old new spent later p (inr h) = (h.1.1, inl h.1.0)
 
 off_known : (off : Bool) (home : Home) (x : Seen) (time : ℕ) (c : LockedConnectionOf)
-    (old new : Notes)
-    → PutsOff off home x time c old new → new.known ≡ old.known
+    (old new : Notes) → PutsOff off home x time c old new → new.known ≡ old.known
 off_known true home x time c old new p = p.2
 off_known false home x time c old new p = p.2
 
 -- what was told is as before
 pub may_known : (may : Bool) (home : Home) (x : Seen) (time : ℕ) (c : LockedConnectionOf)
-    (old new : Notes)
-    (spent later : Bool) → MayBegin may home x time c old new spent later
+    (old new : Notes) (spent later : Bool) → MayBegin may home x time c old new spent later
     → new.known ≡ old.known
 may_known may home x time c old new spent later h = off_known h.0 home x time c old new h.1
 
@@ -490,11 +446,9 @@ record MayGo (home : Home) (x : Seen) (time : ℕ) (c : LockedConnectionOf) (old
   shares : MayShare true c spent later
 
 goes_by : (off : Bool) (home : Home) (x : Seen) (time : ℕ) (c : LockedConnectionOf)
-    (old new : Notes)
-    (spent later : Bool) → PutsOff off home x time c old new
+    (old new : Notes) (spent later : Bool) → PutsOff off home x time c old new
     → ((off ≡ true) × (true ≡ false) × (later ≡ spent))
-    ⊎ ((off ≡ false) × MayShare true c spent later)
-    → MayGo home x time c old new spent later
+    ⊎ ((off ≡ false) × MayShare true c spent later) → MayGo home x time c old new spent later
 goes_by true home x time c old new spent later p (inl h) =
     let n : true ≡ false = h.1 in absurd cc
 goes_by true home x time c old new spent later p (inr h) =
@@ -534,8 +488,7 @@ shares_next : {V U : Type 0} (d : DeskOf V) (p : PeersOf U) (differs : Option Di
     → MayShare true old spent later
     → SharesLast (begun_by d p differs went node next peers more old new h) spent later
 shares_next d p differs went node next peers more old new spent later h (inl may) =
-    subst
-    (λ s. SharesLast (begun_by d p differs went node next peers more old new h) spent s)
+    subst (λ s. SharesLast (begun_by d p differs went node next peers more old new h) spent s)
     (sym may.1) (shares_cheap d p differs went node next peers more old new spent h may.0)
 shares_next d p differs went node next peers more old new spent later h (inr may) =
     shares_dear d p differs went node next peers more old new spent later h may.0 may.1 may.2
@@ -583,8 +536,7 @@ due_next home x time notes c frame same next h =
 next_serves : {V U C : Type 0} (d : DeskOf V) (p : PeersOf U)
     (happened : C → Option (List Happened)) (k time : ℕ) (differs : Option Difference)
     (spent later : Bool) (notes after : Notes) (node next : V) (peers more : U) (c : C)
-    (old new : LockedConnectionOf)
-    → d.home_of node ≡ old.talk.home
+    (old new : LockedConnectionOf) → d.home_of node ≡ old.talk.home
     → MayBegin true (d.home_of node) (d.seen node) time old notes after spent later
     → Advances d p differs true (moment node peers old) (moment next more new)
     → ServesOne d p happened k time None true spent later notes after (spot node peers c old)
@@ -609,22 +561,19 @@ next_serves d p happened k time differs spent later notes after node next peers 
 
 -- and so it is told
 pub one_serves : {V U C : Type 0} (d : DeskOf V) (p : PeersOf U)
-    (happened : C → Option (List Happened)) (k time : ℕ) (differs : Option Difference)
-    (went : Bool) (spent later : Bool) (notes after : Notes) (node next : V) (peers more : U)
-    (c : C) (old new : LockedConnectionOf)
-    → d.home_of node ≡ old.talk.home
+    (happened : C → Option (List Happened)) (k time : ℕ) (differs : Option Difference) (went : Bool)
+    (spent later : Bool) (notes after : Notes) (node next : V) (peers more : U) (c : C)
+    (old new : LockedConnectionOf) → d.home_of node ≡ old.talk.home
     → MayBegin true (d.home_of node) (d.seen node) time old notes after spent later
     → Advances d p differs went (moment node peers old) (moment next more new)
     → ServesOne d p happened k time None went spent later notes after (spot node peers c old)
     (spot next more c new)
 one_serves d p happened k time differs true spent later notes after node next peers more c old new
-    home may h =
-    next_serves d p happened k time differs spent later notes after node next peers more c old new
-    home may h
+    home may h = next_serves d p happened k time differs spent later notes after node next peers
+    more c old new home may h
 one_serves d p happened k time differs false spent later notes after node next peers more c old new
-    home may h =
-    rest_serves d p happened k time differs spent later notes after node next peers more c old new
-    may h
+    home may h = rest_serves d p happened k time differs spent later notes after node next peers
+    more c old new may h
 
 -- ---- messages of desks are served before it
 
@@ -641,7 +590,7 @@ hears_none d p happened k known differs node peers c talk = (
   λ free. refl,
 )
 
-all_messages : (xs ys : List Begun) → AreMessages xs → AreMessages ys → AreMessages (xs ++ ys)
+pub all_messages : (xs ys : List Begun) → AreMessages xs → AreMessages ys → AreMessages (xs ++ ys)
 all_messages [] ys h k = k
 all_messages (x ∷ xs) ys h k = (h.0, all_messages xs ys h.1 k)
 
@@ -668,8 +617,7 @@ seen_then : {V U : Type 0} (d : DeskOf V) (p : PeersOf U) (differs : Option Diff
     (h : Advances d p differs true (moment node peers old) (moment next more new))
     → IsFree new → d.seen next ≡ (serve_frame old.talk.home (d.seen node) h.2.0).seen
 seen_then d p differs node next peers more old new h free =
-    (subst
-    (λ (e : Option ConnectionEnd). Turns.LeavesAt e old.talk.home
+    (subst (λ (e : Option ConnectionEnd). Turns.LeavesAt e old.talk.home
     (Turns.sides_at d p old.talk.wire (Turns.moment node peers old.talk))
     (Turns.sides_at d p old.talk.wire (Turns.moment next more h.1)) h.2.0 h.1.frames)
     (still_open h.1 old new h.3 free) h.2.2).0.node
@@ -681,36 +629,26 @@ record HeardOne (home : Home) (e : Ears) (one : Begun) (known : List ℕ)
   first : differs ≡ (hear home e one).differs
 
 heard_one : (home : Home) (x : Seen) (c : LockedConnectionOf) (notes after : Notes)
-    (differs later : Option Difference) (e : Ears) (one : Begun)
-    → next_of c ≡ Some one.frame → one.may ≡ permission_of c.called.doors (caller_of c.called)
-    → x ≡ e.seen → notes.known ≡ e.known → differs ≡ e.differs
-    → after ≡ listened home c notes → later ≡ heard_next home x c notes differs
-    → HeardOne home e one after.known later
+    (differs later : Option Difference) (e : Ears) (one : Begun) → next_of c ≡ Some one.frame
+    → one.may ≡ permission_of c.called.doors (caller_of c.called) → x ≡ e.seen
+    → notes.known ≡ e.known → differs ≡ e.differs → after ≡ listened home c notes
+    → later ≡ heard_next home x c notes differs → HeardOne home e one after.known later
 heard_one home x c notes after differs later e one next may seen known was listens hears =
     record {
       lengths =
-          ap (λ (n : Notes). n.known) listens
-          ∙ ap (λ z. (listened_to home c notes z).known) next
+          ap (λ (n : Notes). n.known) listens ∙ ap (λ z. (listened_to home c notes z).known) next
           ∙ ap (λ m. known_after home m notes.known one.frame) (sym may)
           ∙ ap (λ z. known_after home one.may z one.frame) known;
       first =
           hears ∙ ap (λ z. heard_by home x c notes z differs) next
-          ∙ ap
-          (λ m.
-          first_difference differs
-          (differs_by home m x.desk.log notes.known one.frame)) (sym may)
-          ∙ ap
-          (λ (z : Seen).
-          first_difference differs
+          ∙ ap (λ m. first_difference differs (differs_by home m x.desk.log notes.known one.frame))
+          (sym may)
+          ∙ ap (λ (z : Seen). first_difference differs
           (differs_by home one.may z.desk.log notes.known one.frame)) seen
-          ∙ ap
-          (λ z.
-          first_difference differs
-          (differs_by home one.may e.seen.desk.log z one.frame)) known
-          ∙ ap
-          (λ z.
-          first_difference z
-          (differs_by home one.may e.seen.desk.log e.known one.frame)) was;
+          ∙ ap (λ z. first_difference differs (differs_by home one.may e.seen.desk.log z one.frame))
+          known
+          ∙ ap (λ z. first_difference z (differs_by home one.may e.seen.desk.log e.known one.frame))
+          was;
     }
 
 until_kept : (home : Home) (c : LockedConnectionOf) (notes : Notes) (next : Option Frame)
@@ -726,8 +664,7 @@ until_same home c notes after is =
 pub hears_more : {V U C : Type 0} (d : DeskOf V) (p : PeersOf U)
     (happened : C → Option (List Happened)) (k : ℕ) (e : Ears) (went : Bool) (a : Spot V U C)
     (notes after : Notes) (differs later : Option Difference) (node next : V) (peers more : U)
-    (c : C) (old new : LockedConnectionOf)
-    → d.home_of node ≡ a.talk.talk.home
+    (c : C) (old new : LockedConnectionOf) → d.home_of node ≡ a.talk.talk.home
     → HearsDesks d p happened k e notes.known differs a (spot node peers c old) → HearsDesk old
     → after ≡ listened (d.home_of node) old notes
     → later ≡ heard_next (d.home_of node) (d.seen node) old notes differs
@@ -739,11 +676,9 @@ hears_more d p happened k e true a notes after differs later node next peers mor
     let place = a.talk.talk.home in
     let heard = hear_all place e h.0 in
     let last = heard_last place e h.0 one in
-    let it =
-    heard_one place (d.seen node) old notes after differs later heard one
+    let it = heard_one place (d.seen node) old notes after differs later heard one
     (next_free old adv.0 ∙ ap first_frame adv.2.1.next) adv.2.3 (h.4 hears.free) h.3.lengths
-    h.3.first
-    (subst (λ z. after ≡ listened z old notes) home listens)
+    h.3.first (subst (λ z. after ≡ listened z old notes) home listens)
     (subst (λ z. later ≡ heard_next z (d.seen node) old notes differs) home says) in (
       h.0 ++ one ∷ [],
       goes_both d p happened k None 0 0 h.0 (one ∷ []) a (spot node peers c old)
@@ -765,7 +700,7 @@ hears_more d p happened k e false a notes after differs later node next peers mo
     hears listens says adv = absurd (never_rests old new hears adv.2)
 
 -- a message that waits is begun, so fewer wait
-fewer_wait : (w v : List Frame) (frame : Frame) → w ≡ frame ∷ v → length v < length w
+pub fewer_wait : (w v : List Frame) (frame : Frame) → w ≡ frame ∷ v → length v < length w
 fewer_wait w v frame is =
     let counted : length w ≡ suc (length v) = ap (λ (z : List Frame). length z) is in
     omega (arith, counted)
@@ -792,8 +727,7 @@ due_after home x y time same until was c (one ∷ more) place moment at h =
 pub hears_then : {V U C : Type 0} (d : DeskOf V) (p : PeersOf U)
     (happened : C → Option (List Happened)) (k time : ℕ) (cause : Option EndReason)
     (served spent later : Bool) (notes mid new : Notes) (differs after : Option Difference)
-    (a m b : Spot V U C)
-    → mid.until ≡ notes.until → new.known ≡ mid.known
+    (a m b : Spot V U C) → mid.until ≡ notes.until → new.known ≡ mid.known
     → HearsDesks d p happened k (ears (d.seen a.node) notes.known differs) mid.known after a m
     → ServesOne d p happened k time cause served spent later mid new m b
     → ServesNext d p happened k time cause served (beside spent notes differs)
@@ -826,8 +760,7 @@ told_nothing k turns before h = h
 pub serves_beside : {V U C : Type 0} (d : DeskOf V) (p : PeersOf U)
     (happened : C → Option (List Happened)) (k time : ℕ) (served : Bool) (was at : Beside)
     (node next : V) (peers more : U) (c : C) (old new : LockedConnectionOf)
-    → ServesNext d p Some k time None served was at (spot node peers [] old)
-    (spot next more [] new)
+    → ServesNext d p Some k time None served was at (spot node peers [] old) (spot next more [] new)
     → ServesNext d p happened k time None served was at (spot node peers c old)
     (spot next more c new)
 serves_beside d p happened k time served was at node next peers more c old new h = (
@@ -870,8 +803,7 @@ pub serves_sent : {V U C : Type 0} (d : DeskOf V) (p : PeersOf U)
 serves_sent d p happened k time ok served was at a node peers c later talk last h sends rests = (
   h.0,
   subst
-      (λ z. Goes d p happened k (broken ok) 0 z a (spot node peers later last))
-      (append-nil h.0)
+      (λ z. Goes d p happened k (broken ok) 0 z a (spot node peers later last)) (append-nil h.0)
       (goes_both d p happened k (broken ok) 0 0 h.0 [] a (spot node peers c talk)
       (spot node peers later last) h.1
       (after_send d p happened k 0 ok node peers c later talk last sends)),
@@ -888,8 +820,7 @@ undone_is talk (inl h) undone = h
 undone_is talk (inr h) undone = absurd (undone h)
 
 left_is : (x : Seen) (time : ℕ) (begun : List Begun) (talk : LockedConnectionOf) (until : Option ℕ)
-    → IsLeftOrDone x time begun talk until → (IsDone talk → ⊥)
-    → IsLeft x time begun talk until
+    → IsLeftOrDone x time begun talk until → (IsDone talk → ⊥) → IsLeft x time begun talk until
 left_is x time [] talk until (inl h) undone = inl (undone_is talk h undone)
 left_is x time [] talk until (inr h) undone = inr h
 left_is x time (one ∷ more) talk until h undone = tt
@@ -903,8 +834,7 @@ pub talk_moved : {V U C : Type 0} (d : DeskOf V) (p : PeersOf U)
     (happened : C → Option (List Happened)) (k time : ℕ) (w : EndReason) (at : Beside) (node : V)
     (peers : U) (c later : C) (old new : LockedConnectionOf)
     → Moves happened k (Some w) c later old new
-    → TalksOn d p happened k time (Some w) at at (spot node peers c old)
-    (spot node peers later new)
+    → TalksOn d p happened k time (Some w) at at (spot node peers c old) (spot node peers later new)
 talk_moved d p happened k time w at node peers c later old new h = (
   [],
   after_move d p happened k (Some w) node peers c later old new h,
@@ -921,11 +851,9 @@ talk_moved d p happened k time w at node peers c later old new h = (
 pub talk_served : {V U C : Type 0} (d : DeskOf V) (p : PeersOf U)
     (happened : C → Option (List Happened)) (k time : ℕ) (cause : Option EndReason) (served : Bool)
     (was at : Beside) (node : V) (peers : U) (c between : C) (old mid : LockedConnectionOf)
-    (b : Spot V U C)
-    → Moves happened k None c between old mid
+    (b : Spot V U C) → Moves happened k None c between old mid
     → ServesNext d p happened k time cause served was at (spot node peers between mid) b
-    → IsFate cause b.talk
-    → TalksOn d p happened k time cause was at (spot node peers c old) b
+    → IsFate cause b.talk → TalksOn d p happened k time cause was at (spot node peers c old) b
 talk_served d p happened k time cause served was at node peers c between old mid b h g fate =
     let moved = after_move d p happened k None node peers c between old mid h in (
       g.0,
@@ -945,8 +873,7 @@ pub talk_done : {V U C : Type 0} (d : DeskOf V) (p : PeersOf U)
     (node : V) (peers : U) (c between : C) (old mid : LockedConnectionOf) (b : Spot V U C)
     → Moves happened k None c between old mid
     → ServesNext d p happened k time None served was at (spot node peers between mid) b
-    → IsDone b.talk
-    → TalksOn d p happened k time (Some why.Done) was at (spot node peers c old) b
+    → IsDone b.talk → TalksOn d p happened k time (Some why.Done) was at (spot node peers c old) b
 talk_done d p happened k time served was at node peers c between old mid b h g done =
     talk_served d p happened k time (Some why.Done) served was at node peers c between old mid b h
     (g.0, goes_as d p happened k why.Done 0 g.0 _ b refl g.1, g.2, g.3, g.4, g.5) done

@@ -60,8 +60,7 @@ rest_after before now = 3 * min (now - before) 30
 -- until when none is answered
 abbrev pub until_after : ℕ → ℕ → DearTurns → ℕ
 until_after before now d =
-    if d.spent && d.crowded then min (now + rest_after before now) 18446744073709551615
-    else d.until
+    if d.spent && d.crowded then min (now + rest_after before now) 18446744073709551615 else d.until
 
 -- after a round
 abbrev pub renewed : ℕ → ℕ → DearTurns → DearTurns

@@ -1,23 +1,20 @@
 -- What holds of each client of many that were served side by side (the project's own).
-use Rattle.std.specs.Prelude.{◌≡◌, ℕ, ◌==◌, Bool, if◌then◌else◌, List, [], ◌∷◌, ◌++◌}
+use Rattle.std.specs.Prelude.{◌≡◌, ℕ, ◌==◌, Bool, true, false, if◌then◌else◌, List, [], ◌∷◌, ◌++◌}
 use Rattle.std.specs.Prelude.{Option, None, Some, IsTrue}
-use Rattle.answers.specs.declared.desk.Desk.{Ghosts as DeskOf}
+use Rattle.answers.specs.{declared.desk.Desk.Ghosts as DeskOf, Seen.settled}
 use Rattle.store.specs.declared.home.Home.{Home}
-use Rattle.sealed.specs.declared.callers.Access.{Access}
-use Rattle.sealed.specs.declared.callers.Access.TheVariants.{Locked}
+use Rattle.sealed.specs.declared.callers.Access.{Access, TheVariants.Locked}
 use Rattle.sealed.specs.declared.callers.DeskKeys.{DeskKeys}
 use Rattle.guarded.specs.LockedConnections.{LockedConnectionOf}
 use Rattle.guarded.specs.LockedLaw.{IsGuardedStream, IsUnderHall, delivers}
 use Rattle.serving.specs.Connection.{Sides, asked}
-use Rattle.serving.specs.Making.{Way, speaking}
-use Rattle.serving.specs.OwnTicks.{unanswered}
+use Rattle.serving.specs.{Making.Way, Making.speaking, OwnTicks.unanswered}
 use Rattle.connections.specs.Connections.{AreServedInTurn, IsServedOf, MakesSome, Point, Served}
 use Rattle.connections.specs.Connections.{begun_of, served_of}
 use Rattle.polled.specs.Happenings.{Happened, Round, Came, Full, Named, Gave, Took, Ended, Broke}
 use Rattle.polled.specs.Happenings.{Closed, Failed}
-use Rattle.answers.specs.Seen.{settled}
 use Rattle.multiplex.specs.Passing.{Changed, Clock, IsServedEach, Room, Settles, Step, Ticked}
-use Rattle.multiplex.specs.Passing.{TicksBy, Visit, told_all}
+use Rattle.multiplex.specs.Passing.{TicksBy, Visit, point_in, told_all}
 use Rattle.multiplex.specs.declared.ends.ServingsOutcome.{ServingsOutcome}
 use Rattle.multiplex.specs.declared.table.ServingOptions.{ServingOptions}
 
@@ -48,30 +45,28 @@ took k (Broke j ∷ hs) = took k hs
 took k (Closed j ∷ hs) = took k hs
 took k (Failed ∷ hs) = took k hs
 
--- what is seen of the node, and what is there beside
-abbrev pub point_in : {V : Type 0} → {way : Way V} → Room way → Point way
-point_in a = record { seen = a.seen; outside = a.outside }
-
 -- ---- what was done
 
--- in order: a frame of a client was begun, and served, or the desk gave itself a Tick, for which
--- memory was refused or was not, or what was done by then was settled, or that failed
+-- in order: a frame was begun, and served, a client's, or, where so, one of the desk to itself; or
+-- the desk gave itself a Tick, for which memory was refused or was not; or what was done by then
+-- was settled, or that failed
 pub data Deed : Type 0 where
-  Frame : Served → Deed
+  Frame : Bool → Served → Deed
   OwnTick : Bool → Deed
   Settling : Bool → Deed
 
--- the frames among these, all of clients
+-- the frames of clients among these
 abbrev pub frames_in : List Deed → List Served
 frames_in [] = []
-frames_in (Frame f ∷ ds) = f ∷ frames_in ds
+frames_in (Frame false f ∷ ds) = f ∷ frames_in ds
+frames_in (Frame true f ∷ ds) = frames_in ds
 frames_in (OwnTick starved ∷ ds) = frames_in ds
 frames_in (Settling ok ∷ ds) = frames_in ds
 
 -- the desk's own Ticks among these, and among steps
 abbrev pub own_ticks : List Deed → List Bool
 own_ticks [] = []
-own_ticks (Frame f ∷ ds) = own_ticks ds
+own_ticks (Frame own f ∷ ds) = own_ticks ds
 own_ticks (OwnTick starved ∷ ds) = starved ∷ own_ticks ds
 own_ticks (Settling ok ∷ ds) = own_ticks ds
 
@@ -81,7 +76,7 @@ ticks_of (Changed c ∷ ss) = ticks_of ss
 ticks_of (Clock now ∷ ss) = ticks_of ss
 ticks_of (Ticked now starved ∷ ss) = starved ∷ ticks_of ss
 ticks_of (Visit k turns fate ∷ ss) = ticks_of ss
-ticks_of (Settles ok ∷ ss) = ticks_of ss
+ticks_of (Settles heard ok ∷ ss) = ticks_of ss
 
 abbrev pub sides_at : {V : Type 0} → {way : Way V} → Point way → Sides way
 sides_at p = unanswered p.seen p.outside
@@ -97,7 +92,7 @@ SettlesTo {V} {way} ok a b =
 abbrev pub AreDoneInTurn : {V : Type 0} → {way : Way V} → Home → Point way → List Deed → Point way
     → Type 0
 AreDoneInTurn home a [] b = a ≡ b
-AreDoneInTurn {V} {way} home a (Frame f ∷ ds) b =
+AreDoneInTurn {V} {way} home a (Frame own f ∷ ds) b =
     (m : Point way) × AreServedInTurn home a (f ∷ []) m × AreDoneInTurn home m ds b
 AreDoneInTurn {V} {way} home a (OwnTick starved ∷ ds) b =
     (m : Point way) × TicksBy starved home (sides_at a) (sides_at m) × AreDoneInTurn home m ds b
@@ -150,21 +145,19 @@ IsServedClient home doors (Some server) came sent all =
 
 -- ---- the laws
 
--- Of every serving of many clients: the frames that were begun are served and the desk's own Ticks
--- are taken one after the other, whichever clients the frames are of, and the calls of all of them,
--- with what is settled between them, lead from the first node to the last. Each client is served
--- what its own frames come to, as far as it may ask, and nothing else.
+-- Of every serving of many clients: the frames that were begun, those of the desk to itself too,
+-- are served and the desk's own Ticks are taken one after the other, whichever clients the frames
+-- are of, and the calls of all of them, with what is settled between them, lead from the first node
+-- to the last. Each client is served what its own frames come to, as far as it may ask, and nothing
+-- else.
 abbrev pub EachClientIsServed : {V : Type 0} → DeskOf V → Type 0
 EachClientIsServed d =
     (result : ServingsOutcome) (home : Home) (t : ServingOptions) (period : Option ℕ)
     (a b : Room (speaking d.handles d.settles t.wire)) (before after : Option (List Happened))
-    (steps : List Step)
-    → IsServedEach result home t period a b before after steps
-    → (deeds : List Deed)
-    × AreDoneInTurn home (point_in a) deeds (point_in b)
+    (steps : List Step) → IsServedEach result home t period a b before after steps
+    → (deeds : List Deed) × AreDoneInTurn home (point_in a) deeds (point_in b)
     × ((settlings : List Bool) × MakesBetween home.hall (point_in a) settlings (point_in b))
-    × (own_ticks deeds ≡ ticks_of steps)
-    × ((k : ℕ)
+    × (own_ticks deeds ≡ ticks_of steps) × ((k : ℕ)
     → IsServedClient home t.doors (came_with k (told_all steps)) (gave k (told_all steps))
     (took k (told_all steps)) (served_of k (frames_in deeds)))
 
@@ -173,8 +166,7 @@ EachClientIsServed d =
 abbrev pub EachDeliversUnderHall : Type 0
 EachDeliversUnderHall =
     (home : Home) (locks : DeskKeys) (server came sent : List ℕ) (earlier later : List Served)
-    (one : Served)
-    → IsServedBehind home (Locked locks) server came sent (earlier ++ one ∷ later)
+    (one : Served) → IsServedBehind home (Locked locks) server came sent (earlier ++ one ∷ later)
     → IsTrue (delivers (asked home one.one))
     → IsUnderHall locks server came (begun_of earlier) one.one
 

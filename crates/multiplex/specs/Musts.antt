@@ -4,26 +4,18 @@ use Rattle.std.specs.Prelude.{Option, None, Some, Bool, true, false, IfSome, ◌
 use Rattle.std.specs.List.{AllByRecursion}
 use Rattle.answers.specs.Seen.{Seen}
 use Rattle.guarded.specs.LockedConnections.{LockedConnectionOf, WantsRead, begun}
-use Rattle.multiplex.specs.Dear.{fresh_dear}
-use Rattle.multiplex.specs.Noting.{awakes}
+use Rattle.multiplex.specs.{Dear.fresh_dear, Noting.awakes, Silence.waited_for}
 use Rattle.store.specs.declared.home.Home.{Home}
-use Rattle.wire.specs.declared.standing.Difference.{Difference}
-use Rattle.polled.specs.Requests.{Request, Waited, Accepting, Reading, Writing, Watching}
-use Rattle.polled.specs.Requests.{Closing}
-use Rattle.polled.specs.declared.answers.Ready.{Ready}
-use Rattle.polled.specs.declared.answers.Ready.TheVariants as ready_is
-use Rattle.polled.specs.declared.answers.AcceptedPeer.{AcceptedPeer}
-use Rattle.polled.specs.declared.answers.AcceptedPeer.TheVariants as accepted_is
-use Rattle.polled.specs.declared.answers.ReadOutcome.{ReadOutcome}
-use Rattle.polled.specs.declared.answers.WriteOutcome.{WriteOutcome}
-use Rattle.multiplex.specs.declared.ends.ServingEnd.{ServingEnd}
-use Rattle.multiplex.specs.declared.ends.ServingEnd.TheVariants as over_is
-use Rattle.multiplex.specs.declared.own_ticks.OwnTicks.{OwnTicks}
-use Rattle.multiplex.specs.declared.table.Guest.{Guest}
-use Rattle.multiplex.specs.declared.table.ClientTable.{ClientTable}
-use Rattle.multiplex.specs.Silence.{waited_for}
+use Rattle.polled.specs.Requests.{Request, Waited, Accepting, Reading, Writing, Watching, Closing}
+use Rattle.polled.specs.declared.answers.{Ready.Ready, AcceptedPeer.AcceptedPeer}
+use Rattle.polled.specs.declared.answers.{ReadOutcome.ReadOutcome, WriteOutcome.WriteOutcome}
+use Rattle.multiplex.specs.declared.{ends.ServingEnd.ServingEnd, own_ticks.OwnTicks.OwnTicks}
+use Rattle.multiplex.specs.declared.table.{Guest.Guest, ClientTable.ClientTable}
 use Rattle.multiplex.specs.declared.table.ServingOptions.{ServingOptions}
 use Rattle.ticking.specs.Ticking.{Ticking, left}
+use Rattle.polled.specs.declared.answers.Ready.TheVariants as ready_is
+use Rattle.polled.specs.declared.answers.AcceptedPeer.TheVariants as accepted_is
+use Rattle.multiplex.specs.declared.ends.ServingEnd.TheVariants as over_is
 
 -- ---- how long it is waited
 
@@ -31,6 +23,12 @@ use Rattle.ticking.specs.Ticking.{Ticking, left}
 abbrev pub left_at : Option Ticking → ℕ → Option ℕ
 left_at None now = None
 left_at (Some t) now = Some (left t now)
+
+-- where own frames wait beside the links, they are to be kept at once
+abbrev pub due_beside : {L : Type 0} → (L → ℕ → Option ℕ → Type 0) → List ℕ → L → ℕ → Option ℕ
+    → Type 0
+due_beside due [] links now left = due links now left
+due_beside due (byte ∷ more) links now left = left ≡ Some 0
 
 abbrev pub shorter : Option ℕ → ℕ → ℕ
 shorter None millis = millis
@@ -60,9 +58,8 @@ WaitsToRead g = WantsRead g.talk ⊎ (g.notes.until ≢ None)
 -- when more comes, and once the Await is to be answered.
 abbrev pub IsWatched : ℕ → Guest → Guest → List Request → Type 0
 IsWatched k old g asked =
-    ((old.notes.until ≢ None) × (g.notes.until ≢ None) × (asked ≡ []))
-    ⊎ (((old.notes.until ≡ None) ⊎ (g.notes.until ≡ None))
-    × ((writes : Bool) × ((writes ≡ false) ↔ WaitsToRead g)
+    ((old.notes.until ≢ None) × (g.notes.until ≢ None) × (asked ≡ [])) ⊎ (((old.notes.until ≡ None)
+    ⊎ (g.notes.until ≡ None)) × ((writes : Bool) × ((writes ≡ false) ↔ WaitsToRead g)
     × (asked ≡ Watching k writes true ∷ [])))
 
 -- that is asked at last
@@ -94,8 +91,7 @@ pub record IsAttended (k : ℕ) (old new : List Guest) (asked : List Request) : 
 -- and nothing is asked where it is not
 abbrev pub Attends : ℕ → List Guest → List Guest → List Request → Type 0
 Attends k old new asked =
-    (AllByRecursion (λ (g : Guest). g.number ≢ k) old × (asked ≡ []))
-    ⊎ IsAttended k old new asked
+    (AllByRecursion (λ (g : Guest). g.number ≢ k) old × (asked ≡ [])) ⊎ IsAttended k old new asked
 
 -- ---- a client waits
 
@@ -122,10 +118,9 @@ Crowds k count over asked =
 -- nothing is asked where no other client is wanted
 abbrev pub Admits : ServingOptions → Option ServingEnd → ClientTable → List Request → Type 0
 Admits t over old asked =
-    ((t.most ≤ old.next) × (asked ≡ []))
-    ⊎ (((length old.guests.items < 512) × Accepts old.next (length old.guests.items) asked)
-    ⊎ ((512 ≤ length old.guests.items)
-    × Crowds old.next (length old.guests.items) over asked))
+    ((t.most ≤ old.next) × (asked ≡ [])) ⊎ (((length old.guests.items < 512) × Accepts old.next
+    (length old.guests.items) asked)
+    ⊎ ((512 ≤ length old.guests.items) × Crowds old.next (length old.guests.items) over asked))
 
 -- ---- a round is over
 
@@ -151,8 +146,7 @@ IsWoken home x time asked g =
 -- where serving goes on, the links are kept, those are woken whose Await is to be answered, and
 -- clients that are silent for too long are let go
 pub record EndsRound (t : ServingOptions) (home : Home) (now : ℕ) (over : Option ServingEnd)
-    (x : Seen)
-    (new : ClientTable) (kept : Option (List ℕ)) (asked : List Request) : Type 0 where
+    (x : Seen) (new : ClientTable) (kept : Option (List ℕ)) (asked : List Request) : Type 0 where
   pub time : new.time ≡ now
   pub links : over ≡ None → WereKeptAt now kept
   pub woken : over ≡ None → AllByRecursion (IsWoken home x now asked) new.guests.items
@@ -161,8 +155,7 @@ pub record EndsRound (t : ServingOptions) (home : Home) (now : ℕ) (over : Opti
 -- ---- a step
 
 abbrev pub Follows : ServingOptions → Home → Seen → Option ServingEnd → ClientTable → ClientTable
-    → Option (List ℕ) → Ready
-    → List Request → Type 0
+    → Option (List ℕ) → Ready → List Request → Type 0
 Follows t home x over old new kept ready_is.Waits more = Admits t over old more
 Follows t home x over old new kept (ready_is.Peer k) more =
     Attends k old.guests.items new.guests.items more
@@ -176,8 +169,7 @@ Follows t home x over old new kept ready_is.Failed more =
 -- behind the step.
 pub record Musts {L : Type 0} (due : L → ℕ → Option ℕ → Type 0) (kept : L → Option (List ℕ))
     (t : ServingOptions) (home : Home) (x : Seen) (over : Option ServingEnd) (old new : ClientTable)
-    (links later : L)
-    (asked : List Request) : Type 0 where
+    (links later : L) (asked : List Request) : Type 0 where
   pub left : Option ℕ
   pub says : due links old.time left
   pub ready : Ready
@@ -199,8 +191,7 @@ stand table links seen = record { table = table; links = links; seen = seen }
 
 -- steps after each of which serving goes on, with what was asked at each
 abbrev pub GoesOn : {L : Type 0} → (L → ℕ → Option ℕ → Type 0) → (L → Option (List ℕ))
-    → ServingOptions
-    → Home → Stand L → List (List Request) → Stand L → Type 0
+    → ServingOptions → Home → Stand L → List (List Request) → Stand L → Type 0
 GoesOn due kept t home a [] b = a ≡ b
 GoesOn {L} due kept t home a (asked ∷ steps) b =
     (m : Stand L) × Musts due kept t home m.seen None a.table m.table a.links m.links asked
@@ -213,13 +204,11 @@ joined (asked ∷ steps) = asked ++ joined steps
 -- After this many steps serving is over: as many clients as were asked for came and left; or it
 -- took 2^64 - 1 steps; or a further step, at which this was asked, ended it.
 abbrev pub Ends : {L : Type 0} → (L → ℕ → Option ℕ → Type 0) → (L → Option (List ℕ))
-    → ServingOptions
-    → Home → ServingEnd → ℕ → Stand L → Stand L → List Request → Type 0
+    → ServingOptions → Home → ServingEnd → ℕ → Stand L → Stand L → List Request → Type 0
 Ends due kept t home over count a b last =
     ((over ≡ over_is.All) × (a.table.guests.items ≡ []) × (t.most ≤ a.table.next) × (b ≡ a)
-    × (last ≡ []))
-    ⊎ (((over ≡ over_is.Tired) × (count ≡ 18446744073709551615) × (b ≡ a) × (last ≡ []))
-    ⊎ Musts due kept t home b.seen (Some over) a.table b.table a.links b.links last)
+    × (last ≡ [])) ⊎ (((over ≡ over_is.Tired) × (count ≡ 18446744073709551615) × (b ≡ a)
+    × (last ≡ [])) ⊎ Musts due kept t home b.seen (Some over) a.table b.table a.links b.links last)
 
 -- all that is asked while it is served
 pub record AsksUntil {L : Type 0} (due : L → ℕ → Option ℕ → Type 0) (kept : L → Option (List ℕ))
@@ -260,8 +249,7 @@ IsFresh own t =
 -- from the first client to the last
 pub record ServesDuly {L : Type 0} (due : L → ℕ → Option ℕ → Type 0) (kept : L → Option (List ℕ))
     (t : ServingOptions) (home : Home) (over : ServingEnd) (own : OwnTicks) (first last : L)
-    (before_it : Seen)
-    (asked : List Request) : Type 0 where
+    (before_it : Seen) (asked : List Request) : Type 0 where
   pub before : ClientTable
   pub fresh : IsFresh own before
   pub after : ClientTable
@@ -275,8 +263,7 @@ pub record ServesDuly {L : Type 0} (due : L → ℕ → Option ℕ → Type 0) (
 
 -- nothing is asked where there was no memory to begin
 abbrev pub AsksDuly : {L : Type 0} → (L → ℕ → Option ℕ → Type 0) → (L → Option (List ℕ))
-    → ServingOptions
-    → Home → ServingEnd → OwnTicks → L → L → Seen → List Request → Type 0
+    → ServingOptions → Home → ServingEnd → OwnTicks → L → L → Seen → List Request → Type 0
 AsksDuly due kept t home over own first last x asked =
     ((over ≡ over_is.NoMemory) × (asked ≡ []))
     ⊎ ServesDuly due kept t home over own first last x asked

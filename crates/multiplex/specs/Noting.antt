@@ -3,19 +3,16 @@ use Rattle.std.specs.Prelude.{◌≡◌, ◌≤◌, ℕ, ◌+◌, ◌*◌, Bool,
 use Rattle.std.specs.Prelude.{List, [], ◌∷◌, Option, None, Some, is_some}
 use Rattle.std.specs.List.{AllByRecursion}
 use Rattle.answers.specs.Seen.{Seen}
-use Rattle.guarded.specs.LockedConnections.{LockedConnectionOf}
-use Rattle.guarded.specs.Permitting.{permission_of}
+use Rattle.guarded.specs.{LockedConnections.LockedConnectionOf, Permitting.permission_of}
 use Rattle.learner.specs.Logs.{position_of}
 use Rattle.sealed.specs.ServerSeals.{caller_of}
 use Rattle.serving.specs.Differing.{awaited_by, differs_by, first_difference, first_frame}
-use Rattle.serving.specs.Differing.{known_after}
+use Rattle.serving.specs.{Differing.known_after, declared.differing.AwaitRequest.AwaitRequest}
 use Rattle.serving.specs.Connection.{Begun, serve_frame}
-use Rattle.serving.specs.declared.differing.AwaitRequest.{AwaitRequest}
 use Rattle.serving.specs.declared.ends.ConnectionEnd.{ConnectionEnd}
 use Rattle.store.specs.declared.home.Home.{Home}
 use Rattle.wire.specs.Ranges.{IsDifference}
-use Rattle.wire.specs.declared.frame.Frame.{Frame}
-use Rattle.wire.specs.declared.standing.Difference.{Difference}
+use Rattle.wire.specs.declared.{frame.Frame.Frame, standing.Difference.Difference}
 use Rattle.multiplex.specs.declared.notes.Notes.{Notes}
 
 -- of a client that came now: what the desks told by then is what the node was told
@@ -140,8 +137,7 @@ ears seen known differs = record { seen = seen; known = known; differs = differs
 abbrev pub hear : Home → Ears → Begun → Ears
 hear home e one =
     ears (serve_frame home e.seen one).seen (known_after home one.may e.known one.frame)
-    (first_difference e.differs
-    (differs_by home one.may e.seen.desk.log e.known one.frame))
+    (first_difference e.differs (differs_by home one.may e.seen.desk.log e.known one.frame))
 
 abbrev pub hear_all : Home → Ears → List Begun → Ears
 hear_all home e [] = e

@@ -1,37 +1,29 @@
 -- Many clients that are served by one desk, side by side, step by step (the project's own).
-use Rattle.std.specs.Prelude.{◌≡◌, ◌≢◌, ◌⊎◌, ◌≤◌, ◌<◌, ℕ, ◌+◌, ◌-◌, List, [], ◌∷◌, ◌++◌, length}
-use Rattle.std.specs.Prelude.{Option, None, Some, suc, Bool, true, false, ◌||◌, IsTrue, IsFalse}
-use Rattle.std.specs.Prelude.{if◌then◌else◌}
-use Rattle.std.specs.List.{AllByRecursion}
+use Rattle.std.specs.Prelude.{◌≡◌, ◌≢◌, ◌⊎◌, ◌≤◌, ◌<◌, ◌+◌, ◌-◌, List, [], ◌∷◌, ◌++◌, if◌then◌else◌}
+use Rattle.std.specs.Prelude.{ℕ, Option, None, Some, suc, Bool, true, false, ◌||◌, IsTrue, IsFalse}
+use Rattle.std.specs.{Prelude.length, List.AllByRecursion}
 use Rattle.answers.specs.Seen.{Seen, settled}
 use Rattle.guarded.specs.LockedConnections.{LockedConnectionOf, IsDear, IsDone, WantsRead}
-use Rattle.guarded.specs.LockedConnections.{after_sent, begun}
-use Rattle.guarded.specs.LockedConnections.{fresh_locked_connection}
+use Rattle.guarded.specs.LockedConnections.{after_sent, begun, fresh_locked_connection}
 use Rattle.guarded.specs.LockedTurns.{Follow, Place}
 use Rattle.store.specs.declared.home.Home.{Home}
-use Rattle.serving.specs.declared.ends.ConnectionEnd.{ConnectionEnd}
-use Rattle.serving.specs.declared.ends.ConnectionEnd.TheVariants as end
-use Rattle.serving.specs.Connection.{Begun, Sides}
-use Rattle.serving.specs.Kinds.{is_dear, is_message}
-use Rattle.serving.specs.Making.{Outside, Way}
+use Rattle.connections.specs.Connections.{AreServedInTurn, Point, Served, begun_of}
+use Rattle.serving.specs.{declared.ends.ConnectionEnd.ConnectionEnd, Making.Outside, Making.Way}
+use Rattle.serving.specs.{Connection.Begun, Connection.Sides, Kinds.is_dear, Kinds.is_message}
 use Rattle.serving.specs.OwnTicks.{Ticks, TicksInPart, unanswered}
 use Rattle.serving.specs.TurnLaw.{Came as CameIn, Began, Rested, Took as TookOf, Turn, begun_in}
 use Rattle.ticking.specs.Ticking.{Look, Ticking, after, is_due, look, new_ticker}
 use Rattle.polled.specs.Happenings.{Happened, Round, Came, Full, Named, Gave, Took, Ended, Broke}
-use Rattle.polled.specs.Telling.{Tells}
-use Rattle.polled.specs.Happenings.{Closed, Failed}
-use Rattle.multiplex.specs.declared.ends.ServingsOutcome.{ServingsOutcome}
-use Rattle.multiplex.specs.declared.ends.ServingEnd.{ServingEnd}
-use Rattle.multiplex.specs.declared.ends.ServingEnd.TheVariants as over
-use Rattle.multiplex.specs.declared.ends.EndReason.{EndReason}
-use Rattle.multiplex.specs.declared.ends.EndReason.TheVariants as why
+use Rattle.polled.specs.{Happenings.Closed, Happenings.Failed, Telling.Tells}
+use Rattle.multiplex.specs.declared.ends.{ServingsOutcome.ServingsOutcome, ServingEnd.ServingEnd}
+use Rattle.multiplex.specs.declared.{ends.EndReason.EndReason, own_ticks.OwnTicks.OwnTicks}
 use Rattle.wire.specs.declared.standing.Difference.{Difference}
 use Rattle.multiplex.specs.Noting.{AreDue, IsHeard, IsOff, ears, fresh_notes, hear_all}
-use Rattle.multiplex.specs.Silence.{ready_after, waited_for}
-use Rattle.multiplex.specs.declared.notes.Notes.{Notes}
-use Rattle.multiplex.specs.declared.table.Guest.{Guest}
-use Rattle.multiplex.specs.declared.own_ticks.OwnTicks.{OwnTicks}
-use Rattle.multiplex.specs.declared.table.ServingOptions.{ServingOptions}
+use Rattle.multiplex.specs.{Silence.ready_after, Silence.waited_for, declared.notes.Notes.Notes}
+use Rattle.multiplex.specs.declared.table.{Guest.Guest, ServingOptions.ServingOptions}
+use Rattle.serving.specs.declared.ends.ConnectionEnd.TheVariants as end
+use Rattle.multiplex.specs.declared.ends.ServingEnd.TheVariants as over
+use Rattle.multiplex.specs.declared.ends.EndReason.TheVariants as why
 
 -- ---- the desk's own Ticks
 
@@ -126,14 +118,14 @@ pub data Change : Type 0 where
 
 -- a step: such a change; or a round is over at which no Tick is due; or one is over at which the
 -- desk gave itself a Tick, for which memory was refused or was not; or a client was ready, its
--- connection took these turns, and perhaps it was ended; or what was changed by then was settled,
--- or that failed
+-- connection took these turns, and perhaps it was ended; or these frames, by which the desk had
+-- said something to itself, were served, and what was changed by then was settled, or that failed
 pub data Step : Type 0 where
   Changed : Change → Step
   Clock : ℕ → Step
   Ticked : ℕ → Bool → Step
   Visit : ℕ → List Turn → Option EndReason → Step
-  Settles : Bool → Step
+  Settles : List Served → Bool → Step
 
 -- what is told of turns: the bytes that the client gave and took
 abbrev pub told_turns : ℕ → List Turn → List Happened
@@ -147,12 +139,7 @@ told_turns k (Rested ∷ ts) = told_turns k ts
 abbrev pub told_why : ℕ → Option EndReason → List Happened
 told_why k (Some why.Ended) = Ended k ∷ []
 told_why k (Some why.Broke) = Broke k ∷ []
-told_why k (Some why.Done) = []
-told_why k (Some why.Silent) = []
-told_why k (Some why.Crowded) = []
-told_why k (Some why.NoSocket) = []
-told_why k (Some why.Over) = []
-told_why k None = []
+told_why k _ = []
 
 -- and that it was
 abbrev pub told_end : ℕ → Option EndReason → List Happened
@@ -161,11 +148,7 @@ told_end k (Some w) = Closed k ∷ []
 
 abbrev pub told_over : ServingEnd → List Happened
 told_over over.Failed = Failed ∷ []
-told_over over.All = []
-told_over over.Stopped = []
-told_over over.Down = []
-told_over over.Tired = []
-told_over over.NoMemory = []
+told_over _ = []
 
 abbrev pub told_change : Change → List Happened
 told_change (Comes k random) = Came k random ∷ []
@@ -184,7 +167,7 @@ told (Clock now) = Round now ∷ []
 told (Ticked now starved) = Round now ∷ []
 told (Visit k turns fate) =
     Named k ∷ (told_turns k turns ++ (told_why k fate ++ told_end k fate))
-told (Settles ok) = []
+told (Settles heard ok) = []
 
 abbrev pub told_all : List Step → List Happened
 told_all [] = []
@@ -202,10 +185,8 @@ IsFate None c = IsDone c → ⊥
 IsFate (Some why.Done) c = IsDone c
 IsFate (Some why.Ended) c = WantsRead c
 IsFate (Some why.Broke) c = Unit {0}
-IsFate (Some why.Silent) c = ⊥
-IsFate (Some why.Crowded) c = ⊥
-IsFate (Some why.NoSocket) c = ⊥
 IsFate (Some why.Over) c = Unit {0}
+IsFate _ c = ⊥
 
 -- these frames are messages of desks to desks
 abbrev pub AreMessages : List Begun → Type 0
@@ -241,14 +222,7 @@ pub record Shares (begun : List Begun) (spent later : Bool) : Type 0 where
 abbrev pub over_by : Option ConnectionEnd → Option ServingEnd
 over_by (Some end.Stopped) = Some over.Stopped
 over_by (Some end.Down) = Some over.Down
-over_by (Some end.Frames) = None
-over_by (Some end.End) = None
-over_by (Some end.Reads) = None
-over_by (Some (end.Fault e)) = None
-over_by (Some end.Read) = None
-over_by (Some end.Write) = None
-over_by (Some end.NoMemory) = None
-over_by None = None
+over_by _ = None
 
 abbrev pub over_after : Option EndReason → LockedConnectionOf → Option ServingEnd
 over_after None c = None
@@ -284,8 +258,7 @@ pub record Visits {V : Type 0} {way : Way V} (k : ℕ) (turns : List Turn) (fate
       (hear_all old.talk.talk.home (ears a.seen old.notes.known a.lobby.differs)
       shares.messages).seen a.lobby.time old.notes.until shares.last
   pub same : new.number ≡ k
-  pub ready : new.ready
-      ≡ ready_after a.lobby.time (begun old.talk) (begun new.talk) old.ready
+  pub ready : new.ready ≡ ready_after a.lobby.time (begun old.talk) (begun new.talk) old.ready
   pub stands : IsFate fate new.talk
   pub left : b.lobby ≡ lobby (before ++ (staying fate new ++ after)) a.lobby.next a.lobby.time
       a.lobby.own b.lobby.spent b.lobby.differs (over_after fate new.talk)
@@ -305,9 +278,7 @@ IsCause t why.Silent a g =
 IsCause t why.Crowded a g = (a.over ≡ None) × (512 ≤ length a.guests) × IsLongest g a.guests
 IsCause t why.NoSocket a g = (a.over ≡ None) × IsLongest g a.guests
 IsCause t why.Over a g = a.over ≢ None
-IsCause t why.Done a g = ⊥
-IsCause t why.Ended a g = ⊥
-IsCause t why.Broke a g = ⊥
+IsCause t _ a g = ⊥
 
 -- the first cause for which serving is over
 abbrev pub first_of : Option ServingEnd → Option ServingEnd → Option ServingEnd
@@ -316,8 +287,7 @@ first_of (Some o) e = Some o
 
 -- a connection was ended
 pub record Shuts (t : ServingOptions) (k : ℕ) (w : EndReason) (a b : Lobby)
-    (before after : List Guest)
-    (old : Guest) : Type 0 where
+    (before after : List Guest) (old : Guest) : Type 0 where
   pub found : a.guests ≡ before ++ old ∷ after
   pub number : old.number ≡ k
   pub cause : IsCause t w a old
@@ -340,8 +310,7 @@ pub record Enters (t : ServingOptions) (k : ℕ) (more : List Guest) (a b : Lobb
   pub number : k ≡ a.next
   pub wanted : a.next < t.most
   pub room : length a.guests < 512
-  pub enters : b ≡ lobby (a.guests ++ more) (a.next + 1) a.time a.own a.spent
-      a.differs None
+  pub enters : b ≡ lobby (a.guests ++ more) (a.next + 1) a.time a.own a.spent a.differs None
 
 -- the ends that come of themselves
 abbrev pub IsStop : ServingOptions → ServingEnd → Lobby → Type 0
@@ -354,8 +323,7 @@ IsStop t over.Down a = ⊥
 
 abbrev pub Changes : Home → ServingOptions → Change → Lobby → Lobby → Type 0
 Changes home t (Comes k random) a b =
-    (known : List ℕ)
-    × Enters t k
+    (known : List ℕ) × Enters t k
     (guest k (fresh_locked_connection t.doors random home t.wire) (fresh_notes known) a.time ∷ []) a
     b
 Changes home t (TurnedAway k random) a b = Enters t k [] a b
@@ -368,8 +336,7 @@ Changes home t (TakesLast k (Some bytes)) a b =
     (before : List Guest) × (after : List Guest) × (old : Guest) × (new : Guest)
     × SendsLast k bytes a b before after old new
 Changes home t (Shut k w) a b =
-    (before : List Guest) × (after : List Guest) × (old : Guest)
-    × Shuts t k w a b before after old
+    (before : List Guest) × (after : List Guest) × (old : Guest) × Shuts t k w a b before after old
 Changes home t (Stops e) a b =
     (a.over ≡ None) × IsStop t e a
     × (b ≡ lobby a.guests a.next a.time a.own a.spent a.differs (Some e))
@@ -421,12 +388,21 @@ abbrev pub over_settled : Bool → Option ServingEnd → Option ServingEnd
 over_settled true before = before
 over_settled false before = Some over.Down
 
--- All that was done by then is committed together, or the desk is down. Each connection is as
+-- what is seen of the node, and what is there beside
+abbrev pub point_in : {V : Type 0} → {way : Way V} → Room way → Point way
+point_in a = record { seen = a.seen; outside = a.outside }
+
+-- Frames by which the desk had said something to itself are served, as messages that a connection
+-- brings. Then all that was done is committed together, or the desk is down. Each connection is as
 -- before.
-pub record SettlesIn {V : Type 0} {way : Way V} (ok : Bool) (a b : Room way) : Type 0 where
-  pub seen : b.seen ≡ settled ok a.seen
-  pub node : way.settles a.outside.node ok b.outside.node
-  pub handed : b.outside.handed ≡ a.outside.handed
+pub record SettlesIn {V : Type 0} {way : Way V} (home : Home) (heard : List Served) (ok : Bool)
+    (a b : Room way) : Type 0 where
+  pub messages : AreMessages (begun_of heard)
+  pub between : Point way
+  pub hears : AreServedInTurn home (point_in a) heard between
+  pub seen : b.seen ≡ settled ok between.seen
+  pub node : way.settles between.outside.node ok b.outside.node
+  pub handed : b.outside.handed ≡ between.outside.handed
   pub left : b.lobby
       ≡ lobby a.lobby.guests a.lobby.next a.lobby.time a.lobby.own a.lobby.spent a.lobby.differs
       (over_settled ok a.lobby.over)
@@ -442,11 +418,10 @@ Takes home t (Ticked now starved) a b = TicksItself home now starved a b
 Takes home t (Visit k turns fate) a b =
     (before : List Guest) × (after : List Guest) × (old : Guest) × (new : Guest)
     × Visits k turns fate a b before after old new
-Takes home t (Settles ok) a b = SettlesIn ok a b
+Takes home t (Settles heard ok) a b = SettlesIn home heard ok a b
 
 abbrev pub Pass : {V : Type 0} → {way : Way V} → Home → ServingOptions → Room way → List Step
-    → Room way
-    → Type 0
+    → Room way → Type 0
 Pass home t a [] b = a ≡ b
 Pass {V} {way} home t a (s ∷ ss) b = (m : Room way) × Takes home t s a m × Pass home t m ss b
 

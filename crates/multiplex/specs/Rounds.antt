@@ -1,10 +1,8 @@
 -- A desk that serves, step after step (the project's own).
 use Rattle.std.specs.Prelude.{◌≡◌, ℕ, [], Option, None}
 use Rattle.answers.specs.declared.desk.Desk.{Ghosts as DeskOf}
-use Rattle.multiplex.specs.Dear.{fresh_dear}
-use Rattle.multiplex.specs.Passing.{first_ticks}
-use Rattle.multiplex.specs.declared.table.ClientTable.{ClientTable}
-use Rattle.multiplex.specs.declared.table.ServingOptions.{ServingOptions}
+use Rattle.multiplex.specs.{Dear.fresh_dear, Passing.first_ticks}
+use Rattle.multiplex.specs.declared.table.{ClientTable.ClientTable, ServingOptions.ServingOptions}
 
 -- how clients are served, the clients, and the desk
 pub record RoundsOf (V : Type 0) : Type 0 where

@@ -1,9 +1,7 @@
 -- Serving many clients, as a contract says it (the project's own).
 use Rattle.std.specs.Prelude.{ℕ, List, Option}
 use Rattle.answers.specs.declared.desk.Desk.{Ghosts as DeskOf}
-use Rattle.serving.specs.declared.peers.Peers.{Ghosts as PeersOf}
-use Rattle.serving.specs.Making.{speaking}
-use Rattle.serving.specs.Sessions.{outside}
+use Rattle.serving.specs.{declared.peers.Peers.Ghosts as PeersOf, Making.speaking, Sessions.outside}
 use Rattle.wire.specs.declared.values.Version.{Version}
 use Rattle.polled.specs.Happenings.{Happened}
 use Rattle.multiplex.specs.Passing.{IsServedEach, Lobby, Room, Step, empty_lobby, first_ticks}
@@ -30,10 +28,8 @@ in_room d p version l s = record {
 
 -- clients were served side by side, from the first one to the end
 abbrev pub Serves : {V U C : Type 0} → DeskOf V → PeersOf U → (C → Option (List Happened))
-    → ServingOptions
-    → Option ℕ → ServingsOutcome → Scene V U C → Scene V U C → Type 0
+    → ServingOptions → Option ℕ → ServingsOutcome → Scene V U C → Scene V U C → Type 0
 Serves d p happened t period result a b =
-    (last : Lobby) × (steps : List Step)
-    × IsServedEach result (d.home_of a.node) t period
+    (last : Lobby) × (steps : List Step) × IsServedEach result (d.home_of a.node) t period
     (in_room d p t.wire (empty_lobby (first_ticks (d.home_of a.node) period (d.seen a.node))) a)
     (in_room d p t.wire last b) (happened a.clients) (happened b.clients) steps

@@ -2,12 +2,10 @@
 use Rattle.std.specs.Prelude.{◌≤◌, ℕ, ◌+◌, suc, List, [], ◌∷◌, ◌++◌, if◌then◌else◌}
 use Rattle.answers.specs.declared.desk.Desk.{Ghosts as DeskOf}
 use Rattle.store.specs.declared.home.Home.{Home}
-use Rattle.serving.specs.Connection.{Begun}
+use Rattle.connections.specs.Connections.{begun_of}
+use Rattle.serving.specs.{Connection.Begun, Making.speaking, TurnLaw.begun_in}
 use Rattle.serving.specs.Kinds.{is_dear, is_message}
-use Rattle.serving.specs.Making.{speaking}
-use Rattle.serving.specs.TurnLaw.{begun_in}
-use Rattle.multiplex.specs.Passing.{Changed, Clock, Pass, Room, Settles, Step, Ticked}
-use Rattle.multiplex.specs.Passing.{Visit}
+use Rattle.multiplex.specs.Passing.{Changed, Clock, Pass, Room, Settles, Step, Ticked, Visit}
 use Rattle.multiplex.specs.declared.table.ServingOptions.{ServingOptions}
 
 -- the frames that were begun in these steps, in order
@@ -17,7 +15,7 @@ begun_by (Changed c ∷ ss) = begun_by ss
 begun_by (Clock now ∷ ss) = begun_by ss
 begun_by (Ticked now starved ∷ ss) = begun_by ss
 begun_by (Visit k turns fate ∷ ss) = begun_in turns ++ begun_by ss
-begun_by (Settles ok ∷ ss) = begun_by ss
+begun_by (Settles heard ok ∷ ss) = begun_of heard ++ begun_by ss
 
 -- how many turns clients had in them, and how many rounds were over
 abbrev pub visits : List Step → ℕ
@@ -26,7 +24,7 @@ visits (Changed c ∷ ss) = visits ss
 visits (Clock now ∷ ss) = visits ss
 visits (Ticked now starved ∷ ss) = visits ss
 visits (Visit k turns fate ∷ ss) = suc (visits ss)
-visits (Settles ok ∷ ss) = visits ss
+visits (Settles heard ok ∷ ss) = visits ss
 
 abbrev pub rounds : List Step → ℕ
 rounds [] = 0
@@ -34,7 +32,7 @@ rounds (Changed c ∷ ss) = rounds ss
 rounds (Clock now ∷ ss) = suc (rounds ss)
 rounds (Ticked now starved ∷ ss) = suc (rounds ss)
 rounds (Visit k turns fate ∷ ss) = rounds ss
-rounds (Settles ok ∷ ss) = rounds ss
+rounds (Settles heard ok ∷ ss) = rounds ss
 
 -- how many of these frames are no messages of desks to desks
 abbrev pub count_others : List Begun → ℕ
@@ -59,5 +57,4 @@ pub record AreShared (steps : List Step) : Type 0 where
 abbrev pub TurnsAreShared : {V : Type 0} → DeskOf V → Type 0
 TurnsAreShared d =
     (home : Home) (t : ServingOptions) (a b : Room (speaking d.handles d.settles t.wire))
-    (steps : List Step)
-    → Pass home t a steps b → AreShared steps
+    (steps : List Step) → Pass home t a steps b → AreShared steps

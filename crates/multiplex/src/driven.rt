@@ -1,14 +1,12 @@
 //! A desk that serves, step after step.
 
 ghost use Rattle.std.specs.Prelude.{◌≡◌, ◌≤◌, ℕ, IfOk, None, Option};
-ghost use Rattle.multiplex.specs.model.Scenes.{Does};
+ghost use Rattle.multiplex.specs.{model.Scenes.Does, Rounds.Begins, Scenes.scene};
 ghost use Rattle.multiplex.specs.Musts.{Musts, left_at, wait_by};
 ghost use Rattle.polled.specs.Requests.{Asks};
-ghost use Rattle.multiplex.specs.Rounds.{Begins};
-ghost use Rattle.multiplex.specs.Scenes.{scene};
 
 use crate::ends::ServingEnd;
-use crate::links::PeerLinks;
+use crate::own_frames::OwnLinks;
 use crate::serving_each::{step, wait_of};
 use crate::table::{ClientTable, ServingOptions};
 use answers::Desk;
@@ -79,9 +77,8 @@ impl<D: Desk + Drop> Rounds<D> {
     /// For how many milliseconds it may be waited after the last round, where nothing becomes
     /// ready: at most a second, until a Tick of the desk's own is due, and until the links are to
     /// be kept again.
-    pub fn wait<L: PeerLinks>(&self, links: &L) -> u64
-        ensures { let table = self.now.table in
-            (left : Option ℕ) × L.due links.now table.time left
+    pub fn wait<L: OwnLinks>(&self, links: &L) -> u64
+        ensures { let table = self.now.table in (left : Option ℕ) × L.due links.now table.time left
             × (result ≡ wait_by left (left_at table.own.ticker table.time)) }
     {
         wait_of(links, &self.table.own, self.table.time)
@@ -89,22 +86,20 @@ impl<D: Desk + Drop> Rounds<D> {
 
     /// Does what can be done next, and says why serving is over by that, if it is: a client is let
     /// in, one that is ready has its turn, or a round is over.
-    pub fn step<C: Sockets, L: PeerLinks>(
+    pub fn step<C: Sockets, L: OwnLinks>(
         &mut self,
         clients: &mut C,
         links: &mut L,
     ) -> Option<ServingEnd>
         ensures does { Does D.Desk L.Peers C.happened (D.home_of self.old.desk) self.old.terms
-            result self.old.table self.new.table
-            (scene self.old.desk links.old clients.old)
+            result self.old.table self.new.table (scene self.old.desk links.old clients.old)
             (scene self.new.desk links.new clients.new) }
         ensures asks { Asks C.requests clients.old clients.new
             (Musts L.due L.kept self.old.terms (D.home_of self.old.desk) (D.seen self.new.desk)
             result self.old.table self.new.table links.old links.new) }
         // What a step has changed is settled where serving goes on, and so nothing waits between
         // two.
-        ensures settled { result ≡ None → D.is_settled self.old.desk
-            → D.is_settled self.new.desk }
+        ensures settled { result ≡ None → D.is_settled self.old.desk → D.is_settled self.new.desk }
         ensures terms { self.new.terms ≡ self.old.terms }
         ensures home { D.home_of self.new.desk ≡ D.home_of self.old.desk }
     {

@@ -1,8 +1,7 @@
 //! What follows of serving many clients, whatever came of them.
 
 ghost use Rattle.multiplex.specs.EachClient.{EachClientIsServed, EachDeliversUnderHall};
-ghost use Rattle.multiplex.specs.EachClient.{TicksNeedAPeriod};
-ghost use Rattle.multiplex.specs.SharedTurns.{TurnsAreShared};
+ghost use Rattle.multiplex.specs.{EachClient.TicksNeedAPeriod, SharedTurns.TurnsAreShared};
 
 use answers::Desk;
 

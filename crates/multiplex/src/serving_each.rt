@@ -1,17 +1,16 @@
 //! Serving many clients, side by side.
 
-ghost use Rattle.std.specs.Prelude.{◌≡◌, ◌≤◌, ◌∷◌, [], ℕ, length, Option, None};
-ghost use Rattle.polled.specs.Telling.{Tells};
+ghost use Rattle.std.specs.Prelude.{◌≡◌, ◌≤◌, ◌∷◌, [], ℕ, length, IsTrue, Option, None};
+ghost use Rattle.polled.specs.{Telling.Tells, Requests.Asks};
 ghost use Rattle.multiplex.specs.Musts.{AsksDuly, AsksUntil, EndsRound, Musts, left_at, stand};
-ghost use Rattle.multiplex.specs.Musts.{wait_by};
-ghost use Rattle.multiplex.specs.Passing.{first_ticks};
-ghost use Rattle.polled.specs.Requests.{Asks};
-ghost use Rattle.multiplex.specs.model.Tables.{AreKept, KeepsAll};
+ghost use Rattle.multiplex.specs.{Musts.WereKeptAt, Musts.wait_by, Passing.first_ticks};
+ghost use Rattle.multiplex.specs.{model.Tables.AreKept, model.Tables.KeepsAll, Scenes.scene};
 ghost use Rattle.multiplex.specs.model.Scenes.{Does, DoesRound};
-ghost use Rattle.multiplex.specs.Scenes.{Serves, scene};
+ghost use Rattle.multiplex.specs.{model.Ticks.desks, model.Visiting.SettlesDesks, Scenes.Serves};
 
 use crate::ends::{ServingEnd, ServingsOutcome};
 use crate::links::PeerLinks;
+use crate::own_frames::{OwnLinks, settle};
 use crate::own_ticks::OwnTicks;
 use crate::steps::{admit, let_all_go, let_go, visit, wake};
 use crate::table::{ClientTable, ServingOptions};
@@ -19,7 +18,7 @@ use answers::Desk;
 use polled::{Ready, Sockets};
 use std::alloc::Global;
 use ticking::Period;
-use wire::Difference;
+use wire::{Difference, Version};
 
 /// How long nothing needs to become ready at most, in milliseconds.
 const LONGEST_WAIT: u64 = 1000;
@@ -60,11 +59,38 @@ fn keep_links<D: Desk, L: PeerLinks>(now: u64, links: &mut L, node: &D)
     links.keep(now);
 }
 
-/// A round is over: a Tick is taken where one is due, and settled, the links are kept, it is said
-/// once that another desk differs, where one does, those clients are to be named in the next round
-/// whose Await is to be answered now, and those are let go that weren't ready for longer than a
-/// client is waited for.
-fn end_round<D: Desk, C: Sockets, L: PeerLinks>(
+/// Settles all that was changed, once what the desk has said to itself is heard, where it is to be
+/// heard now, and keeps the links. False: the desk is down.
+fn settle_and_keep<D: Desk, L: OwnLinks>(
+    alloc: Global,
+    wire: Version,
+    now: u64,
+    hears: bool,
+    node: &mut D,
+    links: &mut L,
+) -> bool
+    ensures settles { SettlesDesks D.Desk L.Peers wire (D.home_of node.old) result
+        (desks node.old links.old) (desks node.new links.new) }
+    ensures kept { IsTrue result → WereKeptAt now (L.kept links.new) }
+    ensures settled { IsTrue result → D.is_settled node.new }
+    ensures home { D.home_of node.new ≡ D.home_of node.old }
+{
+    if !settle(alloc, wire, hears, node, links) {
+        return false;
+    }
+    keep_links(now, links, node);
+    true
+}
+
+/// A round is over: a Tick is taken where one is due, and settled, the links are kept, what the
+/// desk has said to itself is heard, and settled, the links are kept again, it is said once that
+/// another desk differs, where one does, those clients are to be named in the next round whose
+/// Await is to be answered now, and those are let go that weren't ready for longer than a client is
+/// waited for.
+///
+/// So what a desk asks all desks leaves before the desk's own vote is committed, which is done
+/// while the others commit theirs.
+fn end_round<D: Desk, C: Sockets, L: OwnLinks>(
     alloc: Global,
     table: &mut ClientTable,
     terms: ServingOptions,
@@ -77,9 +103,8 @@ fn end_round<D: Desk, C: Sockets, L: PeerLinks>(
         table.old table.new
         (scene node.old links.old clients.old) (scene node.new links.new clients.new) }
     ensures settled { result ≡ None → D.is_settled node.new }
-    ensures ends { Asks C.requests clients.old clients.new
-        (EndsRound terms (D.home_of node.old) now result (D.seen node.new) table.new
-        (L.kept links.new)) }
+    ensures ends { Asks C.requests clients.old clients.new (EndsRound terms (D.home_of node.old) now
+        result (D.seen node.new) table.new (L.kept links.new)) }
     ensures kept { KeepsAll table.old table.new }
     ensures fewer { length table.new.guests.items ≤ length table.old.guests.items }
     ensures home { D.home_of node.new ≡ D.home_of node.old }
@@ -90,17 +115,19 @@ fn end_round<D: Desk, C: Sockets, L: PeerLinks>(
     if over.is_some() {
         return over;
     }
-    if !node.settle() {
+    if !settle_and_keep(alloc, terms.wire, now, false, node, links) {
         return Some(ServingEnd::Down);
     }
-    keep_links(now, links, node);
+    if !settle_and_keep(alloc, terms.wire, now, true, node, links) {
+        return Some(ServingEnd::Down);
+    }
     say(table.differs, &mut table.said, links);
     wake(table, clients, node);
     let_go(table, terms.patience, clients)
 }
 
 /// Does what can be done next, and says why serving is over by that, if it is.
-pub(crate) fn step<D: Desk, C: Sockets, L: PeerLinks>(
+pub(crate) fn step<D: Desk, C: Sockets, L: OwnLinks>(
     alloc: Global,
     table: &mut ClientTable,
     terms: ServingOptions,
@@ -110,12 +137,10 @@ pub(crate) fn step<D: Desk, C: Sockets, L: PeerLinks>(
 ) -> Option<ServingEnd>
     requires kept { AreKept (D.home_of node.old) terms.wire table.old }
     requires few { length table.old.guests.items ≤ 512 }
-    ensures does { Does D.Desk L.Peers C.happened (D.home_of node.old) terms result
-        table.old table.new
-        (scene node.old links.old clients.old) (scene node.new links.new clients.new) }
-    ensures asks { Asks C.requests clients.old clients.new
-        (Musts L.due L.kept terms (D.home_of node.old) (D.seen node.new) result table.old
-        table.new links.old links.new) }
+    ensures does { Does D.Desk L.Peers C.happened (D.home_of node.old) terms result table.old
+        table.new (scene node.old links.old clients.old) (scene node.new links.new clients.new) }
+    ensures asks { Asks C.requests clients.old clients.new (Musts L.due L.kept terms
+        (D.home_of node.old) (D.seen node.new) result table.old table.new links.old links.new) }
     ensures settled { result ≡ None → D.is_settled node.old → D.is_settled node.new }
     ensures kept { AreKept (D.home_of node.old) terms.wire table.new }
     ensures few { length table.new.guests.items ≤ 512 }
@@ -123,14 +148,14 @@ pub(crate) fn step<D: Desk, C: Sockets, L: PeerLinks>(
 {
     match clients.ready(wait_of(links, &table.own, table.time)) {
         Ready::Waits => admit(alloc, table, terms, clients, node),
-        Ready::Peer { number } => visit(table, terms, number, clients, node, links),
+        Ready::Peer { number } => visit(alloc, table, terms, number, clients, node, links),
         Ready::Round { now } => end_round(alloc, table, terms, now, clients, node, links),
         Ready::Failed => Some(ServingEnd::Failed),
     }
 }
 
 /// Serves until it is over, and says why it is.
-fn serve_rounds<D: Desk, C: Sockets, L: PeerLinks>(
+fn serve_rounds<D: Desk, C: Sockets, L: OwnLinks>(
     alloc: Global,
     table: &mut ClientTable,
     terms: ServingOptions,
@@ -140,12 +165,10 @@ fn serve_rounds<D: Desk, C: Sockets, L: PeerLinks>(
 ) -> ServingEnd
     requires kept { AreKept (D.home_of node.old) terms.wire table.old }
     requires few { length table.old.guests.items ≤ 512 }
-    ensures does { Does D.Desk L.Peers C.happened (D.home_of node.old) terms (Some result)
-        table.old table.new
-        (scene node.old links.old clients.old) (scene node.new links.new clients.new) }
-    ensures asks { Asks C.requests clients.old clients.new
-        (AsksUntil L.due L.kept terms (D.home_of node.old) result
-        (stand table.old links.old (D.seen node.old))
+    ensures does { Does D.Desk L.Peers C.happened (D.home_of node.old) terms (Some result) table.old
+        table.new (scene node.old links.old clients.old) (scene node.new links.new clients.new) }
+    ensures asks { Asks C.requests clients.old clients.new (AsksUntil L.due L.kept terms
+        (D.home_of node.old) result (stand table.old links.old (D.seen node.old))
         (stand table.new links.new (D.seen node.new))) }
     ensures home { D.home_of node.new ≡ D.home_of node.old }
 {
@@ -163,7 +186,10 @@ fn serve_rounds<D: Desk, C: Sockets, L: PeerLinks>(
 /// Serves clients side by side: at most 512 connections are open at once, and each client that is
 /// ready has its turn: a write or a read of at most 4,096 bytes, and then the messages of desks are
 /// served that come next, and one frame of a client. What these change is settled together before
-/// the answer is sent, and what they push is written to the links once the round is over. In a
+/// the answer is sent, and what they push is written to the links once the round is over. What the
+/// desk has said to itself is served then, as a connection of its own would bring it, and settled;
+/// and in the turn of a client that brought messages of desks it is served at once, so that what
+/// these change is settled together with it. In a
 /// round one client alone is answered a sheet or entries of the log: the others that ask for such
 /// are put off to the next rounds, those without a key after those that have one. It ends once
 /// `most` clients came and their connections are ended, after a Stop, where the desk is down, and
@@ -183,7 +209,7 @@ fn serve_rounds<D: Desk, C: Sockets, L: PeerLinks>(
 /// It is waited until something is ready, for a second at most, and at most until the next Tick of
 /// the desk's own is due or the links are to be kept again. A contract sees what is done at each
 /// step (`served`), and what has to be asked of the clients and the links there (`asks`).
-pub fn serve_each<D: Desk, C: Sockets, L: PeerLinks>(
+pub fn serve_each<D: Desk, C: Sockets, L: OwnLinks>(
     alloc: Global,
     terms: ServingOptions,
     period: Option<Period>,
@@ -193,10 +219,9 @@ pub fn serve_each<D: Desk, C: Sockets, L: PeerLinks>(
 ) -> ServingsOutcome
     ensures served { Serves D.Desk L.Peers C.happened terms period result
         (scene node.old links.old clients.old) (scene node.new links.new clients.new) }
-    ensures asks { Asks C.requests clients.old clients.new
-        (AsksDuly L.due L.kept terms (D.home_of node.old) result.over
-        (first_ticks (D.home_of node.old) period (D.seen node.old)) links.old links.new
-        (D.seen node.old)) }
+    ensures asks { Asks C.requests clients.old clients.new (AsksDuly L.due L.kept terms
+        (D.home_of node.old) result.over (first_ticks (D.home_of node.old) period (D.seen node.old))
+        links.old links.new (D.seen node.old)) }
     ensures home { D.home_of node.new ≡ D.home_of node.old }
 {
     let Ok(mut table) = ClientTable::new(alloc, period, node) else {

@@ -1,42 +1,37 @@
 //! The steps of serving many clients: one comes, one is ready, one is let go, and time passes.
 
 ghost use Rattle.std.specs.Prelude.{◌≡◌, ◌≢◌, ◌≤◌, ◌<◌, ◌-◌, ◌↔◌, ◌&&◌, [], length, None, Some};
-ghost use Rattle.std.specs.Prelude.{IsTrue, is_some};
-ghost use Rattle.std.specs.List.{AllByRecursion};
-ghost use Rattle.multiplex.specs.Passing.{over_by};
+ghost use Rattle.std.specs.{Prelude.IsTrue, Prelude.is_some, List.AllByRecursion};
+ghost use Rattle.multiplex.specs.{Passing.over_by, Scenes.scene, model.Visiting.Sends};
 ghost use Rattle.multiplex.specs.Musts.{Accepts, Admits, AreEndsOf, Attends, IsEndOf, IsWoken};
 ghost use Rattle.multiplex.specs.Musts.{MakesPlace, NoneIsSilent, OffersLast, WaitsToRead};
 ghost use Rattle.polled.specs.Requests.{Asks};
 ghost use Rattle.multiplex.specs.model.Asking.{AsksHosted, AsksSome, ClosesAt, MayClose};
+ghost use Rattle.multiplex.specs.model.Asking.{KeepsWoken, WakesAll};
 ghost use Rattle.multiplex.specs.model.Tables.{AreKept, IsKept, KeepsAll, KeepsKept, MakesRoom};
 ghost use Rattle.multiplex.specs.model.Scenes.{AltersSome, AnswersThenSettles, Empties, EndsLast};
-ghost use Rattle.multiplex.specs.model.Scenes.{HostsThenSettles};
-ghost use Rattle.multiplex.specs.Scenes.{scene};
-ghost use Rattle.multiplex.specs.model.Scenes.{IsShut, Welcomes};
-ghost use Rattle.multiplex.specs.model.Visiting.{Sends};
-ghost use Rattle.multiplex.specs.Noting.{awakes};
-ghost use Rattle.multiplex.specs.Noting.{AreNoted};
-ghost use Rattle.multiplex.specs.model.Asking.{KeepsWoken, WakesAll};
+ghost use Rattle.multiplex.specs.model.Scenes.{HostsThenSettles, IsShut, Welcomes};
+ghost use Rattle.multiplex.specs.{Noting.awakes, declared.ends.ServingEnd.ServingEnd as OverOf};
+ghost use Rattle.multiplex.specs.{Noting.AreNoted, declared.ends.EndReason.EndReason as WhyOf};
 ghost use Rattle.wire.specs.Ranges.{IsDifference};
-ghost use Rattle.polled.specs.declared.answers.AcceptedPeer.TheVariants as accepted_is;
-ghost use Rattle.multiplex.specs.declared.ends.ServingEnd.{ServingEnd as OverOf};
-ghost use Rattle.multiplex.specs.declared.ends.EndReason.{EndReason as WhyOf};
-ghost use Rattle.multiplex.specs.declared.ends.EndReason.TheVariants as why;
 ghost use Rattle.multiplex.specs.declared.table.ClientTable.{ClientTable as TableOf};
 ghost use Rattle.multiplex.specs.declared.table.ServingOptions.{ServingOptions as TermsOf};
 ghost use Rattle.store.specs.declared.home.Home.{Home};
+ghost use Rattle.polled.specs.declared.answers.AcceptedPeer.TheVariants as accepted_is;
+ghost use Rattle.multiplex.specs.declared.ends.EndReason.TheVariants as why;
 
 use crate::dear::DearTurns;
 use crate::ends::{EndReason, ServingEnd};
 use crate::notes::{Notes, awaited_next, is_due};
+use crate::own_frames::OwnLinks;
 use crate::table::{ClientTable, Guest, MOST_OPEN, ServingOptions, longest_silent, ready_after};
 use crate::turns::{send, talk_on};
 use answers::Desk;
 use guarded::LockedConnection;
 use polled::{AcceptedPeer, Sockets};
-use serving::{ConnectionEnd, Peers};
+use serving::ConnectionEnd;
 use std::alloc::Global;
-use wire::Difference;
+use wire::{Difference, Version};
 
 /// Why serving is over once a connection that ended so was ended.
 fn over_by(end: Option<ConnectionEnd>) -> Option<ServingEnd>
@@ -53,8 +48,7 @@ fn over_by(end: Option<ConnectionEnd>) -> Option<ServingEnd>
 fn shut<C: Sockets>(table: &mut ClientTable, place: usize, clients: &mut C) -> Option<ServingEnd>
     requires { place < length table.old.guests.items }
     ensures shut { IsShut C.happened place result table.old table.new clients.old clients.new }
-    ensures asks { Asks C.requests clients.old clients.new
-        (ClosesAt place table.old.guests.items) }
+    ensures asks { Asks C.requests clients.old clients.new (ClosesAt place table.old.guests.items) }
 {
     let guest = table.guests.remove(place);
     clients.close(guest.number);
@@ -84,20 +78,22 @@ fn stays_off(was_off: bool, guest: &Guest) -> bool
 /// read from, where all that came is served and answered, or an Await is put off, and else when it
 /// can take bytes. While that Await is put off nothing more is asked: so bytes that come meanwhile
 /// name it once, and not at each round.
-fn host<D: Desk, C: Sockets, P: Peers>(
+fn host<D: Desk, C: Sockets, L: OwnLinks>(
+    alloc: Global,
+    wire: Version,
     guest: &mut Guest,
     time: u64,
     dear: &mut DearTurns,
     differs: &mut Option<Difference>,
     clients: &mut C,
     node: &mut D,
-    peers: &mut P,
+    links: &mut L,
 ) -> Option<EndReason>
     requires kept { IsKept (D.home_of node.old) guest.old.talk.talk.wire guest.old }
     requires differs { IsDifference differs.old }
-    ensures hosts { HostsThenSettles D.Desk P.Peers C.happened time result
+    ensures hosts { HostsThenSettles D.Desk L.Peers C.happened wire time result
         dear.old dear.new differs.old differs.new guest.old guest.new
-        (scene node.old peers.old clients.old) (scene node.new peers.new clients.new) }
+        (scene node.old links.old clients.old) (scene node.new links.new clients.new) }
     ensures settled { result ≢ Some why.Over → D.is_settled node.old → D.is_settled node.new }
     ensures asks { Asks C.requests clients.old clients.new
         (AsksHosted guest.old.number guest.old guest.new result) }
@@ -107,7 +103,9 @@ fn host<D: Desk, C: Sockets, P: Peers>(
     let number = guest.number;
     let before = guest.talk.begun();
     let was_off = guest.notes.until.is_some();
-    if let Some(why) = talk_on(guest, dear, time, differs, clients, node, peers) {
+    if let Some(why) = talk_on(
+        alloc, wire, guest, dear, time, differs, clients, node, links,
+    ) {
         guest.ready = ready_after(time, before, guest.talk.begun(), guest.ready);
         return Some(why);
     }
@@ -131,18 +129,19 @@ fn is_over(why: EndReason) -> bool
 
 /// Lets the client with this number have its turn, if its connection is open, and says why serving
 /// is over by that, if it is. Where what it changed can't be settled, the desk is down.
-pub(crate) fn visit<D: Desk, C: Sockets, P: Peers>(
+pub(crate) fn visit<D: Desk, C: Sockets, L: OwnLinks>(
+    alloc: Global,
     table: &mut ClientTable,
     terms: ServingOptions,
     number: u64,
     clients: &mut C,
     node: &mut D,
-    peers: &mut P,
+    links: &mut L,
 ) -> Option<ServingEnd>
     requires kept { AreKept (D.home_of node.old) terms.wire table.old }
-    ensures answers { AnswersThenSettles D.Desk P.Peers C.happened (D.home_of node.old) terms number
+    ensures answers { AnswersThenSettles D.Desk L.Peers C.happened (D.home_of node.old) terms number
         result table.old table.new
-        (scene node.old peers.old clients.old) (scene node.new peers.new clients.new) }
+        (scene node.old links.old clients.old) (scene node.new links.new clients.new) }
     ensures settled { result ≡ None → D.is_settled node.old → D.is_settled node.new }
     ensures asks { Asks C.requests clients.old clients.new
         (Attends number table.old.guests.items table.new.guests.items) }
@@ -156,13 +155,15 @@ pub(crate) fn visit<D: Desk, C: Sockets, P: Peers>(
     let time = table.time;
     let guest = &mut table.guests[place];
     match host(
+        alloc,
+        terms.wire,
         guest,
         time,
         &mut table.dear,
         &mut table.differs,
         clients,
         node,
-        peers,
+        links,
     ) {
         None => None,
         Some(why) => {

@@ -1,8 +1,7 @@
 //! The clients whose connections are open.
 
 ghost use Rattle.std.specs.Prelude.{◌≡◌, [], position, IfOk, IfSome, IfNone, None};
-ghost use Rattle.multiplex.specs.Passing.{first_ticks};
-ghost use Rattle.multiplex.specs.Dear.{fresh_dear};
+ghost use Rattle.multiplex.specs.{Passing.first_ticks, Dear.fresh_dear};
 ghost use Rattle.multiplex.specs.Silence.{ready_after, waited_for};
 ghost use Rattle.multiplex.specs.model.Tables.{IsLongestAt, has_number, is_silent};
 

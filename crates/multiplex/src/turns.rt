@@ -4,24 +4,24 @@
 ghost use Rattle.std.specs.Prelude.{◌≡◌, ◌≢◌, [], None, Some, false};
 ghost use Rattle.guarded.specs.LockedConnections.{WantsRead, moment};
 ghost use Rattle.wire.specs.Ranges.{IsDifference};
-ghost use Rattle.multiplex.specs.declared.ends.EndReason.TheVariants as why;
-ghost use Rattle.multiplex.specs.Noting.{AreNoted};
+ghost use Rattle.multiplex.specs.{Noting.AreNoted, model.Scenes.TalksThenSettles, Scenes.scene};
 ghost use Rattle.polled.specs.Requests.{Asks};
 ghost use Rattle.multiplex.specs.model.Asking.{AsksMove, AsksSome, BeginsWithMove, Hears, Offers};
-ghost use Rattle.multiplex.specs.model.Scenes.{TalksThenSettles};
 ghost use Rattle.multiplex.specs.model.Visiting.{MayBegin, Moves, Reads, Sends, ServesAlone};
 ghost use Rattle.multiplex.specs.model.Visiting.{ServesOne, spot};
-ghost use Rattle.multiplex.specs.Scenes.{scene};
+ghost use Rattle.multiplex.specs.declared.ends.EndReason.TheVariants as why;
 
 use crate::dear::DearTurns;
 use crate::ends::EndReason;
 use crate::notes::{Notes, listen, put_off};
+use crate::own_frames::{OwnLinks, settle};
 use crate::table::Guest;
 use answers::Desk;
 use guarded::LockedConnection;
 use polled::{ReadOutcome, Sockets, WriteOutcome};
 use serving::Peers;
-use wire::Difference;
+use std::alloc::Global;
+use wire::{Difference, Version};
 
 /// Writes once what is to be sent. False: the write failed.
 pub(crate) fn send<C: Sockets>(number: u64, talk: &mut LockedConnection, clients: &mut C) -> bool
@@ -74,9 +74,8 @@ fn serve_one<D: Desk, P: Peers>(
 ) -> bool
     requires home { D.home_of node.old ≡ talk.old.talk.home }
     requires differs { IsDifference differs }
-    ensures served { ServesOne D.Desk P.Peers Some number time None result
-        dear.old.spent dear.new.spent notes.old notes.new
-        (spot node.old peers.old [] talk.old)
+    ensures served { ServesOne D.Desk P.Peers Some number time None result dear.old.spent
+        dear.new.spent notes.old notes.new (spot node.old peers.old [] talk.old)
         (spot node.new peers.new [] talk.new) }
     ensures known { notes.new.known ≡ notes.old.known }
     ensures node { D.home_of node.new ≡ D.home_of node.old }
@@ -181,22 +180,25 @@ fn move_bytes<C: Sockets>(
 }
 
 /// Writes or reads once, and serves the messages of desks that come next and one frame of a client.
-/// What these change is settled before the answer is sent. Where the connection is to be ended now,
-/// it says why.
-pub(crate) fn talk_on<D: Desk, C: Sockets, P: Peers>(
+/// Where one of a desk came, what this desk has said to itself by then is heard too. What these
+/// change is settled before the answer is sent. Where the connection is to be ended now, it says
+/// why.
+pub(crate) fn talk_on<D: Desk, C: Sockets, L: OwnLinks>(
+    alloc: Global,
+    wire: Version,
     guest: &mut Guest,
     dear: &mut DearTurns,
     time: u64,
     differs: &mut Option<Difference>,
     clients: &mut C,
     node: &mut D,
-    peers: &mut P,
+    links: &mut L,
 ) -> Option<EndReason>
     requires home { D.home_of node.old ≡ guest.old.talk.talk.home }
     requires noted { AreNoted guest.old.notes.known differs.old }
-    ensures talks { TalksThenSettles D.Desk P.Peers C.happened time result
+    ensures talks { TalksThenSettles D.Desk L.Peers C.happened wire time result
         dear.old dear.new differs.old differs.new guest.old guest.new
-        (scene node.old peers.old clients.old) (scene node.new peers.new clients.new) }
+        (scene node.old links.old clients.old) (scene node.new links.new clients.new) }
     ensures settled { result ≢ Some why.Over → D.is_settled node.old → D.is_settled node.new }
     ensures noted { AreNoted guest.new.notes.known differs.new }
     ensures asks { Asks C.requests clients.old clients.new
@@ -209,6 +211,7 @@ pub(crate) fn talk_on<D: Desk, C: Sockets, P: Peers>(
     if let Some(why) = move_bytes(number, &mut guest.talk, clients) {
         return Some(why);
     }
+    let hears = guest.talk.hears_desk();
     let served = serve_next(
         number,
         &mut guest.talk,
@@ -217,9 +220,9 @@ pub(crate) fn talk_on<D: Desk, C: Sockets, P: Peers>(
         time,
         differs,
         node,
-        peers,
+        links,
     );
-    if !node.settle() {
+    if !settle(alloc, wire, hears, node, links) {
         return Some(EndReason::Over);
     }
     if !answer(number, &mut guest.talk, served, clients, node) {

@@ -1,26 +1,18 @@
 -- A desk's log only grows.
-use Rattle.std.proofs.Common.{◌≡◌, ℕ, Bool, true, false, if◌then◌else◌, List, [], ◌∷◌}
-use Rattle.std.proofs.Common.{Option, Some, None, Result, Ok, Err, length, refl, subst}
+use Rattle.std.proofs.Common.{◌≡◌, ℕ, Bool, true, false, if◌then◌else◌, List, [], ◌∷◌, Option, Some}
+use Rattle.std.proofs.Common.{None, Result, Ok, Err, length, refl, subst}
 use Rattle.std.proofs.lemmas.List.{append-nil}
-use Rattle.acceptor.specs.declared.entry.Entry.{Entry}
-use Rattle.acceptor.specs.declared.message.Message.{Message}
-use Rattle.acceptor.specs.declared.stored.Change.{Change}
+use Rattle.acceptor.specs.declared.{entry.Entry.Entry, message.Message.Message}
+use Rattle.acceptor.specs.{declared.stored.Change.Change, Storing.log_after}
 use Rattle.acceptor.specs.declared.stored.Change.TheVariants.{Promised, Voted, Tried, Appended}
-use Rattle.acceptor.specs.Storing.{log_after}
-use Rattle.proposer.specs.declared.fault.Refusal.{Refusal}
-use Rattle.proposer.specs.declared.plan.Plan.{Plan}
-use Rattle.proposer.specs.Plans.{Passing}
+use Rattle.proposer.specs.{declared.fault.Refusal.Refusal, declared.plan.Plan.Plan, Plans.Passing}
 use Rattle.proposer.specs.Proposing.{submit, start, tick}
-use Rattle.learner.specs.declared.event.DeskEvent.{DeskEvent}
+use Rattle.learner.specs.{declared.event.DeskEvent.DeskEvent, Laws.IsPrefix, Steps.step}
 use Rattle.learner.specs.declared.event.DeskEvent.TheVariants.{Submit, Start, Tick, Deliver}
 use Rattle.learner.specs.Desks.{Desk, passing}
-use Rattle.learner.specs.Laws.{IsPrefix}
 use Rattle.learner.specs.Steps.{Done as DoneStep, done, idle, is_heeded, on_body, passed, planned}
-use Rattle.learner.specs.Steps.{step}
-use Rattle.replica.specs.Handles.{Handles}
-use Rattle.replica.specs.declared.roles.fault.NodeFault.{NodeFault}
-use Rattle.replica.specs.declared.roles.fault.NodeFault.TheVariants.{Down}
-use Rattle.replica.specs.Nodes.{NodeValue}
+use Rattle.replica.specs.{Handles.Handles, Nodes.NodeValue}
+use Rattle.replica.specs.declared.roles.fault.NodeFault.{NodeFault, TheVariants.Down}
 use Rattle.store.specs.declared.keeper.Keeper.{Ghosts}
 
 changed : (log : List Entry) (change : Option Change) → IsPrefix log (log_after log change)

@@ -2,9 +2,7 @@
 
 ghost use Rattle.std.specs.Prelude.{◌≡◌, ◌⊎◌, Err, IfOk, IfErr};
 ghost use Rattle.node.specs.Seeing.{seen_of};
-ghost use Rattle.replica.specs.Handles.{Handles};
-ghost use Rattle.replica.specs.Opens.{Opens, GivesBack};
-ghost use Rattle.replica.specs.Settles.{Settles};
+ghost use Rattle.replica.specs.{Handles.Handles, Opens.Opens, Opens.GivesBack, Settles.Settles};
 
 use acceptor::NoMemory;
 use acceptor::ballot::Ballot;

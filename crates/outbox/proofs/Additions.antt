@@ -1,11 +1,9 @@
 -- One more line of a file, and its first line.
 use Rattle.std.proofs.Common.{◌≡◌, ℕ, Bool, true, false, List, [], ◌∷◌, ◌++◌, All, Ok, Err, refl}
-use Rattle.std.proofs.Common.{sym}
-use Rattle.std.proofs.Common.{ap, ◌∙◌, cond, subst}
+use Rattle.std.proofs.Common.{sym, ap, ◌∙◌, cond, subst}
 use Rattle.std.specs.Prelude.{Contains, bytes_eq}
-use Rattle.std.proofs.lemmas.List.{append-nil}
+use Rattle.std.proofs.lemmas.{List.append-nil, Slice.Eq.bytes_eq-Decides}
 use Rattle.std.proofs.lemmas.List.Elements.{Contains-append_left, Contains-push}
-use Rattle.std.proofs.lemmas.Slice.Eq.{bytes_eq-Decides}
 use Rattle.texts.specs.Fields.{cut}
 use Rattle.outbox.specs.Items.{ItemsOf, no_items}
 use Rattle.outbox.specs.Journals.{after_lines, fault_of_first, read_lines}

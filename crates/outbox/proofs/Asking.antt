@@ -4,9 +4,8 @@ use Rattle.std.proofs.Common.{slice_get, Option, Some, None, refl, sym, ap, ◌�
 use Rattle.acceptor.specs.declared.entry.Entry.{Entry}
 use Rattle.wire.specs.declared.frame.Frame.{Frame}
 use Rattle.desk_talks.specs.KeptConnections.{AsksOver, KeptConnectionOf}
-use Rattle.outbox.specs.declared.item.Item.{Item}
+use Rattle.outbox.specs.{declared.item.Item.Item, Outboxes.with_line}
 use Rattle.outbox.specs.Outboxes.{AsksNext, IsEntryAt, OutboxOf, kept_from, submit_request}
-use Rattle.outbox.specs.Outboxes.{with_line}
 
 kept_front : (items : List (ℕ × Item)) (kept next : ℕ) (pair : ℕ × Item) → next < kept
     → slice_get items next ≡ Some pair
@@ -38,8 +37,7 @@ asks_true false now question other old new e is h = absurd cc
 pub asks_next : (asked : Bool) (now : ℕ) (entry : Entry) (question : Frame) (old : OutboxOf)
     (line : KeptConnectionOf) → asked ≡ true → old.next < old.list.kept
     → IsEntryAt (slice_get old.list.items old.next) entry
-    → question ≡ submit_request old.hall old.desk entry
-    → AsksOver asked now question old.line line
+    → question ≡ submit_request old.hall old.desk entry → AsksOver asked now question old.line line
     → AsksNext (kept_from old.list old.next) now old (with_line old line)
 asks_next asked now entry question old line e less at asks over =
     go (slice_get old.list.items old.next) refl at

@@ -1,29 +1,21 @@
 -- What a crash leaves of the file is read.
 use Rattle.std.proofs.Common.{◌≡◌, ℕ, zero, suc, ◌+◌, ◌-◌, ◌^◌, ◌<◌, ◌≤◌, ◌==◌, ◌⊎◌, inl, inr, Bool}
-use Rattle.std.proofs.Common.{true, false}
-use Rattle.std.proofs.Common.{List, [], ◌∷◌, ◌++◌, length, map, take, All, is_some}
+use Rattle.std.proofs.Common.{true, false, List, [], ◌∷◌, ◌++◌, length, map, take, All, is_some}
 use Rattle.std.proofs.Common.{Some, None, Ok, Err, refl, sym, ap, ◌∙◌, cond, subst, arith, nat_le}
-use Rattle.std.specs.Prelude.{bytes_eq, nat_eq}
-use Rattle.std.proofs.lemmas.Bool.Decides.{nat_tests}
+use Rattle.std.specs.Prelude.{bytes_eq}
+use Rattle.std.proofs.lemmas.{Bool.Decides.nat_tests, Slice.Eq.bytes_eq-Decides}
 use Rattle.std.proofs.Math.Seq.{take-append-add, take-length}
-use Rattle.std.proofs.lemmas.List.{append-nil, length-take-le, take-append-le}
-use Rattle.std.proofs.lemmas.List.{take_all}
-use Rattle.std.proofs.lemmas.List.{length-append}
-use Rattle.std.proofs.lemmas.List.Elements.{All-take}
-use Rattle.std.proofs.lemmas.List.Splits.{slice_split_none}
-use Rattle.std.proofs.lemmas.Slice.Eq.{bytes_eq-Decides}
+use Rattle.std.proofs.lemmas.List.{append-nil, length-take-le, take-append-le, take_all}
+use Rattle.std.proofs.lemmas.List.{length-append, Elements.All-take, Splits.slice_split_none}
 use Rattle.acceptor.specs.declared.entry.Entry.{Entry}
 use Rattle.texts.specs.Fields.{cut}
-use Rattle.outbox.specs.Items.{ItemsOf, all_kept, is_full, item_in, items_of, no_items}
-use Rattle.outbox.specs.Items.{queued, taken_at, taken_back, with_answer}
-use Rattle.outbox.specs.Journals.{after_lines, fault_of_first, followed_if, go_on}
-use Rattle.outbox.specs.Journals.{read_back, read_lines, with_item}
+use Rattle.outbox.specs.Items.{ItemsOf, all_kept, is_full, item_in, no_items, queued, taken_at}
+use Rattle.outbox.specs.{Items.taken_back, Journals.read_lines, Journals.with_item}
+use Rattle.outbox.specs.{Items.with_answer, Lines.said, Lines.whole_lines, Lines.with_end}
+use Rattle.outbox.specs.Journals.{after_lines, fault_of_first, followed_if, go_on, read_back}
 use Rattle.outbox.specs.Lines.{HallOf, all_but_last, answered_line, cut_line, hall_line, item_line}
-use Rattle.outbox.specs.Lines.{said, whole_lines, with_end}
-use Rattle.indexmap.specs.IndexSet.{insert_key}
-use Rattle.outbox.proofs.Alike.{Fit, fit_more, fit_too, key_of, keys, keys_more}
-use Rattle.outbox.proofs.Alike.{same_full, same_known}
-use Rattle.outbox.proofs.Pieces.{IsNoEnd, whole_after}
+use Rattle.outbox.proofs.Alike.{with_answered, Fit, fit_more, fit_too, key_of, keys, keys_more}
+use Rattle.outbox.proofs.{Alike.same_full, Alike.same_known, Pieces.IsNoEnd, Pieces.whole_after}
 use Rattle.outbox.proofs.Additions.{whole_more, whole_one}
 use Rattle.outbox.proofs.Spelled.{IsFit, answered_no_end, item_no_end, said_answered, said_item}
 
@@ -37,13 +29,11 @@ cut_of_line : (line : List ℕ) (m : ℕ) → All IsNoEnd line
     → (whole_lines (take m (with_end line)) ≡ []) ⊎ (take m (with_end line) ≡ with_end line)
 cut_of_line line m free = go (nat_le m (length line)) refl
   where
-    go : (b : Bool) → nat_le m (length line) ≡ b
-        → (whole_lines (take m (with_end line)) ≡ [])
+    go : (b : Bool) → nat_le m (length line) ≡ b → (whole_lines (take m (with_end line)) ≡ [])
         ⊎ (take m (with_end line) ≡ with_end line)
     go true is =
         let few : m ≤ length line = grind (arith, nat_tests) in
-        inl
-        (ap whole_lines (take-append-le m line (10 ∷ []) few)
+        inl (ap whole_lines (take-append-le m line (10 ∷ []) few)
         ∙ whole_none (take m line) (All-take IsNoEnd m line free))
     go false is =
         let many : length line < m = grind (arith, nat_tests) in
@@ -158,10 +148,9 @@ pub step_answered : (tail : List (List ℕ)) (q : ItemsOf) (id : ℕ) → 1 ≤ 
     → InStep tail (with_answer q id)
 step_answered tail q id first last ends known s =
     in_step_more tail q (with_answer q id) (answered_line id) s ends (answered_no_end id last) refl
-    refl
-    (λ x e.
+    refl (λ x e.
     let there : is_some (item_in x id) ≡ true = same_known x q id e ∙ known in (
-      items_of x.items x.kept x.lines (insert_key nat_eq x.answered id),
+      with_answered x id,
       ap (followed_if x 0) (said_answered id first last) ∙ rw there refl,
       e,
     ))
@@ -202,10 +191,8 @@ pub step_back : (tail : List (List ℕ)) (q : ItemsOf) → q.kept ≤ length q.i
     → InStep tail (taken_back q)
 step_back tail q within s =
     let len : length (take q.kept q.items) ≡ q.kept = length-take-le q.kept q.items within in
-    nothing_due tail (taken_back q) refl
-    (ap (map key_of)
-    (ap (λ n. take n (take q.kept q.items)) (sym len) ∙ take-length (take q.kept q.items)))
-    s.file
+    nothing_due tail (taken_back q) refl (ap (map key_of)
+    (ap (λ n. take n (take q.kept q.items)) (sym len) ∙ take-length (take q.kept q.items))) s.file
 
 pub step_read : (now : ℕ) (tail : List (List ℕ)) (q : ItemsOf)
     → after_lines no_items now 2 tail ≡ Ok q → q.kept ≡ length q.items → q.lines ≡ []

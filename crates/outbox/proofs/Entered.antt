@@ -1,41 +1,29 @@
 -- What is reported as saved was entered: the command of its text was accepted there.
 use Rattle.std.proofs.Common.{◌≡◌, ℕ, ◌+◌, Bool, true, false, not, List, [], ◌∷◌, ◌++◌, Option}
-use Rattle.std.proofs.Common.{Some}
-use Rattle.std.proofs.Common.{None, Result, Ok, take, refl, sym, ap, ◌∙◌, subst, if◌then◌else◌}
-use Rattle.std.proofs.Common.{add-one}
-use Rattle.std.specs.Option.{option_map, option_or}
-use Rattle.std.proofs.lemmas.List.Sums.{fold-append}
+use Rattle.std.proofs.Common.{Some, None, Result, Ok, take, refl, sym, ap, ◌∙◌, subst}
+use Rattle.std.proofs.Common.{if◌then◌else◌, add-one}
+use Rattle.std.{specs.Option.option_map, specs.Option.option_or, proofs.lemmas.List.map-append}
 use Rattle.acceptor.specs.declared.entry.Entry.{Entry}
-use Rattle.answers.specs.Answers.{texts}
-use Rattle.commands.specs.Accepted.{are_values, card_refusal, edition_in}
-use Rattle.commands.specs.Accepted.{fix_refusal, is_registered, refusal, round_by, scramble_of}
-use Rattle.commands.specs.Accepted.{seen_refusal, unfit_card_refusal}
-use Rattle.commands.specs.History.{History, added_read, after, after_in, answer_of, answer_to}
-use Rattle.commands.specs.History.{entry_refusal_in, history, is_seen, knows, nothing}
-use Rattle.commands.specs.History.{read_refusal_in, spelled_refusal}
+use Rattle.answers.specs.{Answers.texts, Transcripts.answer_after}
+use Rattle.commands.specs.Accepted.{are_values, card_refusal, edition_in, fix_refusal}
+use Rattle.commands.specs.Accepted.{is_registered, refusal, round_by, scramble_of, seen_refusal}
+use Rattle.commands.specs.Accepted.{unfit_card_refusal}
+use Rattle.commands.specs.History.{History, added_read, after, answer_of, answer_to, history}
+use Rattle.commands.specs.History.{is_seen, knows, read_refusal, read_refusal_in, spelled_refusal}
 use Rattle.learner.specs.Laws.{IsPrefix}
 use Rattle.rounds.specs.Tables.{Entrant, Table, entrant}
-use Rattle.texts.specs.Editions.{is_spelled_in}
-use Rattle.texts.specs.Reading.{command_of}
-use Rattle.texts.specs.Spelling.{last_edition}
-use Rattle.texts.specs.declared.answer.Answer.{Answer}
-use Rattle.texts.specs.declared.answer.Answer.TheVariants as answer
-use Rattle.texts.specs.declared.answer.Code.{Code}
-use Rattle.texts.specs.declared.answer.Code.TheVariants as code
-use Rattle.texts.specs.declared.command.CardEntry.{CardEntry}
-use Rattle.texts.specs.declared.command.Command.{Command}
+use Rattle.texts.specs.{Editions.is_spelled_in, Reading.command_of, Spelling.last_edition}
+use Rattle.texts.specs.declared.{answer.Answer.Answer, command.RemarkedCommand.RemarkedCommand}
+use Rattle.texts.specs.declared.{answer.Code.Code, reading.CommandFault.CommandFault}
+use Rattle.texts.specs.declared.command.{CardEntry.CardEntry, Command.Command, Settings.Settings}
 use Rattle.texts.specs.declared.command.Command.TheVariants.{Card, Fix}
-use Rattle.texts.specs.declared.command.RemarkedCommand.{RemarkedCommand}
-use Rattle.texts.specs.declared.command.Settings.{Settings}
-use Rattle.texts.specs.declared.reading.CommandFault.{CommandFault}
-use Rattle.answers.specs.Transcripts.{answer_after}
-use Rattle.outbox.specs.Cards.{AreSeen, SavedCardIsOverWhatWasSeen}
-use Rattle.outbox.specs.Cards.{SavedFixIsOverWhatWasSeen, SavedIsEntered, accepted_of}
-use Rattle.outbox.specs.Laws.{IsSo, StandsAs}
-use Rattle.outbox.specs.States.{state_of}
+use Rattle.outbox.specs.Cards.{AreSeen, SavedCardIsOverWhatWasSeen, SavedIsEntered, accepted_of}
+use Rattle.outbox.specs.{Cards.SavedFixIsOverWhatWasSeen, Laws.IsSo, Laws.StandsAs, States.state_of}
+use Rattle.commands.proofs.Entries.{accepted_new, answer_new, stands_more}
+use Rattle.outbox.proofs.{Looking.take_more, Once.repeats, Told.never_by_guess}
+use Rattle.texts.specs.declared.answer.Answer.TheVariants as answer
+use Rattle.texts.specs.declared.answer.Code.TheVariants as code
 use Rattle.outbox.specs.declared.state.ItemState.TheVariants as state
-use Rattle.outbox.proofs.Looking.{take_more}
-use Rattle.outbox.proofs.Told.{never_by_guess}
 
 -- ---- a check that passes
 
@@ -67,63 +55,35 @@ record IsPassed (h : History) (id : ℕ) (text : List ℕ) : Type 0 where
   new : is_seen h id ≡ false
   read : read_refusal_in last_edition h.accepted (command_of text) ≡ None
 
-passed_by : (h : History) (id : ℕ) (text : List ℕ) (seen : Bool) → is_seen h id ≡ seen
-    → (if seen then Some code.Repeat
-    else read_refusal_in last_edition h.accepted (command_of text))
-    ≡ None
-    → IsPassed h id text
-passed_by h id text true is e = absurd cc
-passed_by h id text false is e = record { new = is; read = e }
-
 passed : (h : History) (id : ℕ) (text : List ℕ) → answer_to h id text ≡ answer.Done
     → IsPassed h id text
-unfolding entry_refusal_in
-passed h id text done =
-    passed_by h id text (is_seen h id) refl
-    (none_of (entry_refusal_in last_edition h id text) done)
+passed h id text done = go (is_seen h id) refl
+  where
+    go : (seen : Bool) → is_seen h id ≡ seen → IsPassed h id text
+    go true seen = absurd (let k = sym (repeats h id text seen) ∙ done in cc)
+    go false new = record {
+      new = new;
+      read =
+          none_of (read_refusal h.accepted (command_of text))
+          (sym (answer_new h id text new) ∙ done);
+    }
 
 accepted_by : (cs : List Command) (told : RemarkedCommand)
     (read : Result RemarkedCommand CommandFault)
-    → read ≡ Ok told → read_refusal_in last_edition cs read ≡ None
-    → refusal cs told.command ≡ None
+    → read ≡ Ok told → read_refusal_in last_edition cs read ≡ None → refusal cs told.command ≡ None
 accepted_by cs told read is e =
     provided (is_spelled_in (edition_in cs) told) code.Unread (refusal cs told.command)
     (provided (knows last_edition told.command) code.Unread (spelled_refusal cs told)
     (subst (λ (r : Result RemarkedCommand CommandFault). read_refusal_in last_edition cs r ≡ None)
     is e))
 
-abbrev made : History → ℕ → List Command → History
-made h id more = record { ids = h.ids ++ id ∷ []; accepted = h.accepted ++ more }
-
-added_by : (h : History) (id : ℕ) (command : Command) (seen : Bool) (more : List Command)
-    → seen ≡ false → more ≡ command ∷ []
-    → (if seen then h else made h id more).accepted ≡ h.accepted ++ command ∷ []
-added_by h id command true more e m = absurd cc
-added_by h id command false more e m = ap (λ cs. h.accepted ++ cs) m
-
 after_passed : (h : History) (id : ℕ) (text : List ℕ) (told : RemarkedCommand)
     → command_of text ≡ Ok told → IsPassed h id text
     → (after h id text).accepted ≡ h.accepted ++ told.command ∷ []
-unfolding after_in
 after_passed h id text told reads p =
-    added_by h id told.command (is_seen h id)
-    (added_read (read_refusal_in last_edition h.accepted (command_of text)) (command_of text))
-    p.new
-    (ap (λ r. added_read r (command_of text)) p.read
-    ∙ ap (λ (r : Result RemarkedCommand CommandFault). added_read None r) reads)
-
--- ---- one entry more
-
-texts_more : (entries : List Entry) (e : Entry)
-    → texts (entries ++ e ∷ []) ≡ texts entries ++ (e.id, e.text) ∷ []
-texts_more [] e = refl
-texts_more (x ∷ entries) e = ap (λ ts. (x.id, x.text) ∷ ts) (texts_more entries e)
-
-history_more : (ts : List (ℕ × List ℕ)) (t : ℕ × List ℕ)
-    → history (ts ++ t ∷ []) ≡ after (history ts) t.0 t.1
-history_more ts t =
-    fold-append (λ (h : History) (e : ℕ × List ℕ). after_in last_edition h e.0 e.1) nothing ts
-    (t ∷ [])
+    accepted_new h id text p.new
+    ∙ ap (λ r. h.accepted ++ added_read r (command_of text)) p.read
+    ∙ ap (λ (r : Result RemarkedCommand CommandFault). h.accepted ++ added_read None r) reads
 
 some_same : (a b : Answer) → Some a ≡ Some b → a ≡ b
 some_same a b h = cc
@@ -150,8 +110,7 @@ is_done log position entry stands =
 saved_is_done : (held log : List Entry) (entry : Entry) (position : ℕ) → IsPrefix held log
     → state_of held entry ≡ state.Saved position → IsDone log position entry
 saved_is_done held log entry position front told =
-    is_done log position entry
-    (subst (IsSo log entry) told (never_by_guess held log entry front))
+    is_done log position entry (subst (IsSo log entry) told (never_by_guess held log entry front))
 
 pub saved_is_entered : SavedIsEntered
 saved_is_entered held log entry position command front told says =
@@ -164,8 +123,10 @@ saved_is_entered held log entry position command front told says =
           (accepted_by h.accepted says.told (command_of entry.text) says.reads done.passes.read);
       added =
           ap (λ (es : List Entry). (history (texts es)).accepted) done.longer
-          ∙ ap (λ (ts : List (ℕ × List ℕ)). (history ts).accepted) (texts_more before entry)
-          ∙ ap (λ (x : History). x.accepted) (history_more (texts before) (entry.id, entry.text))
+          ∙ ap (λ (ts : List (ℕ × List ℕ)). (history ts).accepted)
+          (map-append (λ (e : Entry). (e.id, e.text)) before (entry ∷ []))
+          ∙ ap (λ (x : History). x.accepted)
+          (sym (stands_more h _ entry.id entry.text refl (texts before) refl))
           ∙ after_passed h entry.id entry.text says.told says.reads done.passes
           ∙ ap (λ (c : Command). h.accepted ++ c ∷ []) says.is;
     }
@@ -196,23 +157,19 @@ module _ (cs : List Command) (card : CardEntry) where
   card_seen (Some round) opened h =
       by_entrant round opened (entrant round.1 card.number) refl
       (first_none (seen_refusal card.was (entrant round.1 card.number)) _
-      (unless round.1.is_closed code.Closed _
-      (second_none
+      (unless round.1.is_closed code.Closed _ (second_none
       (unfit_card_refusal card.id.event (scramble_of cs card.id.event card.id.round) card.now) _
       h)))
 
   fix_seen : (competitors : ℕ → ℕ) (next : Bool) (o : Option (Settings × Table))
       → round_by cs card.id ≡ o
       → fix_refusal card.id.event (scramble_of cs card.id.event card.id.round) card competitors
-      next o
-      ≡ None
-      → AreSeen cs card
+      next o ≡ None → AreSeen cs card
   fix_seen competitors next None opened h = absurd cc
   fix_seen competitors next (Some round) opened h =
       by_entrant round opened (entrant round.1 card.number) refl
       (first_none (seen_refusal card.was (entrant round.1 card.number)) _
-      (unless (not round.1.is_closed) code.NotClosed _
-      (second_none
+      (unless (not round.1.is_closed) code.NotClosed _ (second_none
       (unfit_card_refusal card.id.event (scramble_of cs card.id.event card.id.round) card.now) _
       h)))
 

@@ -1,21 +1,16 @@
 -- The first line of some bytes.
 use Rattle.std.proofs.Common.{◌≡◌, ℕ, suc, ◌+◌, ◌<◌, ◌≤◌, ◌==◌, Bool, true, false, cond, not}
-use Rattle.std.proofs.Common.{nat_lt, List}
-use Rattle.std.proofs.Common.{[], ◌∷◌, length, Option, Some, None, Err, refl, sym, ap, ◌∙◌, subst}
-use Rattle.std.proofs.Common.{Bor, arith}
-use Rattle.std.proofs.Common.{length-drop}
-use Rattle.std.specs.List.{onto_first, position_or_len}
-use Rattle.std.specs.Option.{option_map}
+use Rattle.std.proofs.Common.{nat_lt, List, [], ◌∷◌, length, Option, Some, None, Err, refl, sym, ap}
+use Rattle.std.proofs.Common.{◌∙◌, subst, Bor, arith, length-drop}
+use Rattle.std.specs.{List.onto_first, List.position_or_len, Option.option_map}
 use Rattle.std.proofs.lemmas.Bool.{false≢true}
-use Rattle.std.proofs.lemmas.Bool.Decides.{nat_tests}
-use Rattle.std.proofs.lemmas.List.Splits.{slice_split_first}
+use Rattle.std.proofs.lemmas.{Bool.Decides.nat_tests, List.Splits.slice_split_first}
 use Rattle.texts.specs.Fields.{cut, cut_at}
-use Rattle.outbox.specs.declared.journal.JournalFault.TheVariants as fault
-use Rattle.outbox.specs.Items.{ItemsOf}
+use Rattle.outbox.specs.{Items.ItemsOf, Lines.whole_lines}
 use Rattle.outbox.specs.Journals.{FollowsIf, after_lines, go_on}
 use Rattle.outbox.specs.Lines.{IsFirstLine, all_but_last, cut_line, last_of, parts, said}
-use Rattle.outbox.specs.Lines.{whole_lines}
 use Rattle.outbox.proofs.Pieces.{first_other, first_whole, some_parts}
+use Rattle.outbox.specs.declared.journal.JournalFault.TheVariants as fault
 
 -- where no line ends, there is one part
 whole : (bytes : List ℕ) → length bytes ≤ position_or_len (λ b. b == 10) bytes
@@ -33,7 +28,7 @@ whole (b ∷ bytes) h = step (b == 10) h (λ g. whole bytes g)
 abbrev line_and_rest : List ℕ × Option (List ℕ) → Option (List ℕ × List ℕ)
 line_and_rest x = option_map (λ left. (x.0, left)) x.1
 
-pub first : (bytes : List ℕ) → IsFirstLine bytes (line_and_rest (cut 10 bytes))
+first : (bytes : List ℕ) → IsFirstLine bytes (line_and_rest (cut 10 bytes))
 unfolding cut
 first bytes = step (nat_lt at (length bytes)) refl
   where
@@ -59,29 +54,15 @@ first bytes = step (nat_lt at (length bytes)) refl
         )
     step false is = whole bytes (more is)
 
-pub some_line : (bytes line : List ℕ) (o : Option (Bor (List ℕ))) (left : Bor (List ℕ))
+-- what was cut at the first end, by what is after it
+pub by_cut : (bytes line : List ℕ) (o r : Option (Bor (List ℕ)))
     → (let pair : List ℕ × Option (List ℕ) =
-    (line, option_map (λ (s : Bor (List ℕ)). s.now) o) in pair)
-    ≡ cut 10 bytes
-    → o ≡ Some left → IsFirstLine bytes (Some (line, left.now))
-some_line bytes line o left is some =
-    subst (λ x. IsFirstLine bytes (line_and_rest x))
-    (sym is ∙ ap (λ (p : Option (Bor (List ℕ))).
+    (line, option_map (λ (s : Bor (List ℕ)). s.now) o) in pair) ≡ cut 10 bytes → o ≡ r
+    → IsFirstLine bytes (line_and_rest (line, option_map (λ (s : Bor (List ℕ)). s.now) r))
+by_cut bytes line o r is same =
+    subst (λ x. IsFirstLine bytes (line_and_rest x)) (sym is ∙ ap (λ (p : Option (Bor (List ℕ))).
     let pair : List ℕ × Option (List ℕ) =
-    (line, option_map (λ (s : Bor (List ℕ)). s.now) p) in pair) some)
-    (first bytes)
-
-pub no_line : (bytes line : List ℕ) (o : Option (Bor (List ℕ)))
-    → (let pair : List ℕ × Option (List ℕ) =
-    (line, option_map (λ (s : Bor (List ℕ)). s.now) o) in pair)
-    ≡ cut 10 bytes
-    → o ≡ None → IsFirstLine bytes None
-no_line bytes line o is none =
-    subst (λ x. IsFirstLine bytes (line_and_rest x))
-    (sym is ∙ ap (λ (p : Option (Bor (List ℕ))).
-    let pair : List ℕ × Option (List ℕ) =
-    (line, option_map (λ (s : Bor (List ℕ)). s.now) p) in pair) none)
-    (first bytes)
+    (line, option_map (λ (s : Bor (List ℕ)). s.now) p) in pair) same) (first bytes)
 
 pub first_of : (left line next : List ℕ) → parts left ≡ line ∷ parts next
     → (whole_lines left ≡ line ∷ whole_lines next) × (cut_line left ≡ cut_line next)
@@ -92,8 +73,7 @@ first_of left line next is = (
 
 -- the first line is damaged
 pub damaged : (q new : ItemsOf) (now number : ℕ) (left line next : List ℕ) (fits : Bool)
-    → parts left ≡ line ∷ parts next → fits ≡ false
-    → FollowsIf q now (said line) fits new
+    → parts left ≡ line ∷ parts next → fits ≡ false → FollowsIf q now (said line) fits new
     → after_lines q now number (whole_lines left) ≡ Err (fault.Damaged number)
 damaged q new now number left line next true is bad does = absurd (false≢true (sym bad))
 damaged q new now number left line next false is bad does =
@@ -115,7 +95,6 @@ followed_on q new now number left line next true is good does =
     record {
       lines =
           ap (after_lines q now number) both.0
-          ∙ ap (λ o. go_on o number (λ x. after_lines x now (number + 1) (whole_lines next)))
-          does;
+          ∙ ap (λ o. go_on o number (λ x. after_lines x now (number + 1) (whole_lines next))) does;
       cut = both.1;
     }

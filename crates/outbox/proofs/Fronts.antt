@@ -1,10 +1,8 @@
 -- What is in the front of a log is there in the whole.
-use Rattle.std.proofs.Common.{◌≡◌, ℕ, suc, ◌+◌, ◌<◌, Bool, true, false, List, []}
-use Rattle.std.proofs.Common.{◌∷◌, ◌++◌, Option, Some, length, slice_get, take, refl, ap}
-use Rattle.std.proofs.Common.{◌∙◌, arith, if◌then◌else◌}
+use Rattle.std.proofs.Common.{◌≡◌, ℕ, suc, ◌+◌, ◌<◌, Bool, true, false, List, [], ◌∷◌, ◌++◌, Option}
+use Rattle.std.proofs.Common.{Some, length, slice_get, take, refl, ap, ◌∙◌, arith, if◌then◌else◌}
 use Rattle.std.proofs.lemmas.List.{take-append-le}
-use Rattle.std.specs.List.{position_from}
-use Rattle.std.specs.Option.{option_map}
+use Rattle.std.specs.{List.position_from, Option.option_map}
 use Rattle.acceptor.specs.declared.entry.Entry.{Entry}
 use Rattle.answers.proofs.Fronts.{get_front}
 use Rattle.answers.specs.Transcripts.{answer_after, answer_at}
@@ -32,8 +30,7 @@ found_at t i p [] h = absurd cc
 found_at t i p (x ∷ xs) h = go (t x) refl h (found_at t (i + 1) p xs)
   where
     go : (b : Bool) → t x ≡ b → (if b then Some i else position_from t (i + 1) xs) ≡ Some p
-        → (position_from t (i + 1) xs ≡ Some p → IsFound t (i + 1) p xs)
-        → IsFound t i p (x ∷ xs)
+        → (position_from t (i + 1) xs ≡ Some p → IsFound t (i + 1) p xs) → IsFound t i p (x ∷ xs)
     go true is e f = record {
       place = 0;
       at = let same : i ≡ p = cc in omega arith;

@@ -1,31 +1,13 @@
 -- A first line names one hall.
-use Rattle.std.proofs.Common.{◌≡◌, ℕ, ◌^◌, ◌<◌, ◌==◌, not, true, false, List, [], ◌∷◌, ◌++◌}
-use Rattle.std.proofs.Common.{All}
-use Rattle.std.proofs.Common.{codes, decimal, Some, refl, sym, ap, ◌∙◌, arith}
+use Rattle.std.proofs.Common.{◌≡◌, ℕ, ◌^◌, ◌<◌, ◌==◌, true, List, [], ◌∷◌, ◌++◌, codes, decimal}
+use Rattle.std.proofs.Common.{Some, refl, sym, ap, ◌∙◌, arith}
 use Rattle.std.specs.List.{AllByRecursion, flat_map, slice_split}
-use Rattle.std.proofs.lemmas.Bool.Decides.{nat_tests}
-use Rattle.std.proofs.lemmas.List.{append-nil}
-use Rattle.std.proofs.lemmas.List.Elements.{All-cons, All-nil}
-use Rattle.std.proofs.lemmas.List.Splits.{slice_split_at, slice_split_none}
-use Rattle.texts.proofs.Cuts.{and-true, lacks}
-use Rattle.texts.proofs.FieldSpellings.{decimal_no_space}
-use Rattle.texts.proofs.Numerals.{number_between-decimal}
-use Rattle.texts.specs.Fields.{number_between}
+use Rattle.std.proofs.lemmas.List.{append-nil, Splits.slice_split_at, Splits.slice_split_none}
+use Rattle.texts.proofs.{Cuts.lacks, FieldSpellings.decimal_no_space}
+use Rattle.texts.{proofs.Numerals.number_between-decimal, specs.Fields.number_between}
 use Rattle.outbox.specs.Laws.{IsAddress, IsName, NamesOneHall, OfThisHallAlone}
 use Rattle.outbox.specs.Lines.{HallOf, hall_line, whole_lines}
-use Rattle.outbox.proofs.Additions.{read_from}
-
-abbrev IsNoSpace : ℕ → Type 0
-IsNoSpace b = (b == 32) ≡ false
-
-no_space : (b : ℕ) → not (b == 32) ≡ true → (b == 32) ≡ false
-no_space b h = grind (arith, nat_tests)
-
-all_of : (bytes : List ℕ) → lacks 32 bytes ≡ true → All IsNoSpace bytes
-all_of [] h = All-nil IsNoSpace
-all_of (b ∷ bytes) h =
-    let both = and-true (not (b == 32)) (lacks 32 bytes) h in
-    All-cons IsNoSpace b bytes (no_space b both.0) (all_of bytes both.1)
+use Rattle.outbox.proofs.{Additions.read_from, Spelled.all_other}
 
 abbrev spaced : List (List ℕ) → List ℕ
 spaced words = flat_map (λ word. 32 ∷ word) words
@@ -37,9 +19,9 @@ words_of line = slice_split (λ b. b == 32) line
 parted : (word : List ℕ) (words : List (List ℕ)) → lacks 32 word ≡ true
     → AllByRecursion IsAddress words → words_of (word ++ spaced words) ≡ word ∷ words
 parted word [] free all =
-    ap words_of (append-nil word) ∙ slice_split_none (λ b. b == 32) word (all_of word free)
+    ap words_of (append-nil word) ∙ slice_split_none (λ b. b == 32) word (all_other 32 word free)
 parted word (next ∷ words) free all =
-    slice_split_at (λ b. b == 32) word 32 (next ++ spaced words) (all_of word free) refl
+    slice_split_at (λ b. b == 32) word 32 (next ++ spaced words) (all_other 32 word free) refl
     ∙ ap (λ x. word ∷ x) (parted next words all.0 all.1)
 
 line_parted : (hall : HallOf) → IsName hall
@@ -72,8 +54,7 @@ same_hall one other n a = λ k. record { number = n k; addresses = a k }
 pub names_one_hall : NamesOneHall
 names_one_hall one other is is' e =
     let words = sym (line_parted one is) ∙ ap words_of e ∙ line_parted other is' in
-    same_hall one other
-    (number_is one.number other.number is.0 is'.0
+    same_hall one other (number_is one.number other.number is.0 is'.0
     (seconds (decimal one.number) (decimal other.number) (codes "hall") one.addresses
     other.addresses words))
     (rests (decimal one.number) (decimal other.number) (codes "hall") one.addresses

@@ -1,47 +1,34 @@
 -- After any calls an outbox and its journal are sound.
-use Rattle.std.proofs.Common.{◌≡◌, ℕ, ◌^◌, ◌<◌, ◌≤◌, ◌⊎◌, inl, inr, Bool, true, false, not}
-use Rattle.std.proofs.Common.{List, []}
-use Rattle.std.proofs.Common.{◌∷◌, ◌++◌, take, drop, is_some, Option, Some, None, refl, sym, ap}
-use Rattle.std.proofs.Common.{◌∙◌}
-use Rattle.std.proofs.Common.{subst, cond, arith}
-use Rattle.std.specs.Prelude.{Contains, bytes_eq}
-use Rattle.std.specs.List.{AllByRecursion}
-use Rattle.std.specs.Option.{option_map}
+use Rattle.std.proofs.Common.{◌≡◌, ℕ, ◌^◌, ◌<◌, ◌≤◌, ◌⊎◌, inl, inr, Bool, true, false, not, List}
+use Rattle.std.proofs.Common.{[], ◌∷◌, ◌++◌, take, drop, is_some, Option, Some, None, refl, sym, ap}
+use Rattle.std.proofs.Common.{◌∙◌, subst, cond, arith}
+use Rattle.std.specs.{Prelude.Contains, Prelude.bytes_eq, List.AllByRecursion, Option.option_map}
 use Rattle.std.proofs.lemmas.List.{take-append-drop}
 use Rattle.std.proofs.lemmas.List.Elements.{Contains-append_left, Contains-push}
 use Rattle.acceptor.specs.declared.entry.Entry.{Entry}
 use Rattle.texts.proofs.Cuts.{and-true}
-use Rattle.wire.specs.Spelling.{spelling}
-use Rattle.wire.specs.Entries.{IsEntry}
-use Rattle.desk_talks.specs.KeptConnections.{unsent_by}
-use Rattle.desk_talks.specs.Exchanges.{ExchangeOf}
+use Rattle.wire.specs.{Spelling.spelling, Entries.IsEntry}
+use Rattle.desk_talks.specs.{KeptConnections.unsent_by, Exchanges.ExchangeOf}
 use Rattle.desk_talks.proofs.Saying.{SaysOver, says_wider}
-use Rattle.outbox.specs.declared.item.Item.{Item}
-use Rattle.outbox.specs.declared.item.QueueOutcome.{QueueOutcome}
-use Rattle.outbox.specs.declared.item.QueueOutcome.TheVariants as taken
-use Rattle.outbox.specs.declared.state.ItemState.{ItemState}
+use Rattle.outbox.specs.declared.item.{Item.Item, QueueOutcome.QueueOutcome}
+use Rattle.outbox.specs.{declared.state.ItemState.ItemState, States.state_of}
 use Rattle.outbox.specs.Histories.{Aim, Answer, Call, CallLeads, History, InDialogue, Kept, Leads}
 use Rattle.outbox.specs.Histories.{Look, NotKept, PromisesOf, Restart, Start, Take, Then, World}
 use Rattle.outbox.specs.Histories.{after_call, aimed_by, promises, promises_of, targets, world}
 use Rattle.outbox.specs.Items.{ItemsOf, Takes, TakesBy, all_kept, is_answered, is_line, item_in}
 use Rattle.outbox.specs.Items.{queued, taken_back, with_answer}
-use Rattle.outbox.specs.Laws.{Fixed, IsOfSubmit, NothingTakenIsLost}
-use Rattle.outbox.specs.Laws.{ReadsAfterCrash}
+use Rattle.outbox.specs.Laws.{Fixed, IsOfSubmit, NothingTakenIsLost, ReadsAfterCrash}
 use Rattle.outbox.specs.Lines.{HallOf, hall_line, item_line, whole_lines}
-use Rattle.outbox.specs.Outboxes.{AnswersIf, OutboxOf, has_ended, may_answer}
-use Rattle.outbox.specs.Outboxes.{state_in, with_list}
-use Rattle.outbox.specs.States.{state_of}
+use Rattle.outbox.specs.Outboxes.{AnswersIf, OutboxOf, has_ended, may_answer, state_in, with_list}
 use Rattle.outbox.proofs.Crash.{InStep, reads_part, step_answered, step_back, step_kept}
-use Rattle.outbox.proofs.Crash.{step_queued}
+use Rattle.outbox.proofs.{Crash.step_queued, Ones.one_each, Pieces.cut_after, Spelled.IsFit}
 use Rattle.outbox.proofs.Lists.{all_contains, all_weaker, contains_next, found_holds}
-use Rattle.outbox.proofs.Ones.{one_each}
-use Rattle.outbox.proofs.Pieces.{cut_after, whole_after}
+use Rattle.outbox.proofs.{Pieces.whole_after, Sent.after_dialogue, Sent.after_look, Sent.more_desks}
 use Rattle.outbox.proofs.Reading.{IsIn, IsKeyed, in_front}
-use Rattle.outbox.proofs.Sent.{after_dialogue, after_look, more_desks}
 use Rattle.outbox.proofs.Sound.{AreKept, IsPromised, IsQuestion, IsSound, IsWritten, Promises}
 use Rattle.outbox.proofs.Sound.{answered_kept, answered_promised, back_kept, back_promised}
 use Rattle.outbox.proofs.Sound.{kept_kept, kept_promised, queued_kept, queued_promised, started}
-use Rattle.outbox.proofs.Spelled.{IsFit}
+use Rattle.outbox.specs.declared.item.QueueOutcome.TheVariants as taken
 
 -- other items
 relisted : (hall : HallOf) (desks : List ℕ) (p q : PromisesOf) (old : World) (list : ItemsOf)
@@ -84,8 +71,7 @@ module _ (hall : HallOf) (desks : List ℕ) (p : PromisesOf) (old : World) (entr
       absurd (not_new (bytes_eq item.entry.text entry.text) e)
   after_new None none list (line, room, e) =
       let fit = fit_of entry is line in
-      subst
-      (λ (l : ItemsOf). IsSound hall desks (promises_of p.made (p.due ++ entry ∷ []))
+      subst (λ (l : ItemsOf). IsSound hall desks (promises_of p.made (p.due ++ entry ∷ []))
       (world (with_list old.outbox l) old.file)) (sym e)
       (relisted hall desks p (promises_of p.made (p.due ++ entry ∷ [])) old
       (queued old.outbox.list entry now) s
@@ -158,8 +144,7 @@ module _ (hall : HallOf) (desks : List ℕ) (p : PromisesOf) (old : World)
   -- ---- the lines are kept
 
   after_kept : IsSound hall desks (promises_of (p.made ++ p.due) [])
-      (world (with_list old.outbox (all_kept old.outbox.list))
-      (old.file ++ old.outbox.list.lines))
+      (world (with_list old.outbox (all_kept old.outbox.list)) (old.file ++ old.outbox.list.lines))
   after_kept =
       let lines = old.outbox.list.lines in
       let tail = s.tail ++ whole_lines lines in
@@ -199,8 +184,7 @@ module _ (hall : HallOf) (desks : List ℕ) (p : PromisesOf) (old : World)
       let longer : s.tail ++ whole_lines more ≡ tail =
       tails (s.tail ++ whole_lines more) tail (hall_line hall) (sym parts ∙ is) in
       all_weaker (IsPromised s.tail (take old.outbox.list.kept old.outbox.list.items))
-      (IsWritten tail)
-      (λ e i. record {
+      (IsWritten tail) (λ e i. record {
         read = i.read;
         line =
             subst (λ l. Contains l (item_line e)) longer
@@ -222,21 +206,9 @@ after_take : (hall : HallOf) (desks : List ℕ) (p : PromisesOf) (old : World) (
     (world (with_list old.outbox list) old.file)
 after_take hall desks p old entry now taken.New list is s t =
     after_new hall desks p old entry now is s (item_in old.outbox.list entry.id) refl list t
-after_take hall desks p old entry now taken.Same list is s t =
+after_take hall desks p old entry now came list is s t =
     unchanged hall desks p old entry now is s list
-    (same_list hall desks p old entry now is s taken.Same (λ e. absurd cc)
-    (item_in old.outbox.list entry.id) list t)
-after_take hall desks p old entry now taken.Other list is s t =
-    unchanged hall desks p old entry now is s list
-    (same_list hall desks p old entry now is s taken.Other (λ e. absurd cc)
-    (item_in old.outbox.list entry.id) list t)
-after_take hall desks p old entry now taken.Unfit list is s t =
-    unchanged hall desks p old entry now is s list
-    (same_list hall desks p old entry now is s taken.Unfit (λ e. absurd cc)
-    (item_in old.outbox.list entry.id) list t)
-after_take hall desks p old entry now taken.Full list is s t =
-    unchanged hall desks p old entry now is s list
-    (same_list hall desks p old entry now is s taken.Full (λ e. absurd cc)
+    (same_list hall desks p old entry now is s came (λ e. absurd cc)
     (item_in old.outbox.list entry.id) list t)
 
 to : (hall : HallOf) (desks : List ℕ) (p : PromisesOf) (a b : World) → b ≡ a
@@ -252,17 +224,14 @@ after_a_call hall desks p (Take entry now came) old new s (is, list, takes, e) =
 after_a_call hall desks p Kept old new s e =
     to hall desks _ _ new e (after_kept hall desks p old s)
 after_a_call hall desks p NotKept old new s e =
-    to hall desks _ _ new e
-    (relisted hall desks p (promises_of p.made []) old
+    to hall desks _ _ new e (relisted hall desks p (promises_of p.made []) old
     (taken_back old.outbox.list) s (back_kept s.tail old.outbox.list s.keeps)
     (back_promised s.tail old.outbox.list s.keeps p s.promised)
     (step_back s.tail old.outbox.list s.keeps.within s.step))
 after_a_call hall desks p (Answer log id told) old new s (after, answers, e) =
-    to hall desks p _ new e
-    (after_answer hall desks p old s log id told after answers.0 answers.1)
+    to hall desks p _ new e (after_answer hall desks p old s log id told after answers.0 answers.1)
 after_a_call hall desks p (Look log) old new s e =
-    to hall desks p _ new e
-    (after_look hall desks p old.file log old.outbox s)
+    to hall desks p _ new e (after_look hall desks p old.file log old.outbox s)
 after_a_call hall desks p (Aim desk) old new s e =
     let more = desks ++ desk ∷ [] in
     let wide =
@@ -281,7 +250,8 @@ after_a_call hall desks p (Aim desk) old new s e =
     })
 after_a_call hall desks p (InDialogue call) old new s (after, leads, e) =
     to hall desks p _ new e
-    (after_dialogue hall desks p old.file call old.outbox after s leads)
+    (after_dialogue hall desks p old.file old.outbox.seen old.outbox.decided call old.outbox after
+    (record { sound = s; seen_is = refl; decided_is = refl }) leads).sound
 after_a_call hall desks p (Restart more desk now) old new s start =
     started hall desk now (old.file ++ more) new (desks ++ desk ∷ []) p.made
     (here desks desk) start (written hall desks p old s more)

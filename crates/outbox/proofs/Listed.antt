@@ -1,24 +1,17 @@
 -- A new item is put after the others.
-use Rattle.std.proofs.Common.{◌≡◌, ℕ, ◌+◌, ◌≤◌, Bool, true, false, List, [], ◌∷◌, ◌++◌, Option}
-use Rattle.std.proofs.Common.{Some}
-use Rattle.std.proofs.Common.{None, length, is_some, refl, sym, ap, ◌∙◌, cond, arith, nat_le}
-use Rattle.std.proofs.Common.{Bor, length-append, subst}
-use Rattle.std.specs.Option.{option_copied}
-use Rattle.std.specs.Prelude.{nat_eq}
-use Rattle.std.specs.List.{AllByRecursion}
-use Rattle.std.specs.Map.{lookup}
-use Rattle.std.proofs.lemmas.Bool.Decides.{nat_tests}
+use Rattle.std.proofs.Common.{◌≡◌, ℕ, ◌+◌, ◌≤◌, Bool, true, false, List, [], ◌∷◌, ◌++◌, Option, Bor}
+use Rattle.std.proofs.Common.{Some, None, length, is_some, refl, sym, ap, ◌∙◌, cond, arith, nat_le}
+use Rattle.std.proofs.{Common.length-append, Common.subst, lemmas.Bool.Decides.nat_tests}
+use Rattle.std.specs.{Option.option_copied, Prelude.nat_eq, List.AllByRecursion, Map.lookup}
 use Rattle.indexmap.specs.IndexMap.{insert_entry}
 use Rattle.acceptor.specs.declared.entry.Entry.{Entry}
-use Rattle.outbox.specs.declared.item.Item.{Item}
+use Rattle.outbox.specs.{declared.item.Item.Item, Items.queued, Items.taken_at}
 use Rattle.outbox.specs.Items.{IsInBounds, IsUnderItsId, ItemsOf, is_full, item_in, items_of}
-use Rattle.outbox.specs.Items.{queued, taken_at}
-use Rattle.outbox.specs.Lines.{item_line, with_end}
-use Rattle.outbox.specs.Journals.{restored, with_item}
+use Rattle.outbox.specs.{Lines.item_line, Lines.with_end, Journals.restored, Journals.with_item}
 use Rattle.outbox.proofs.Lists.{all_append}
 
 -- where no item has the key, a new one goes last
-pub put_last : (id : ℕ) (item : Item) (items : List (ℕ × Item)) → lookup (nat_eq id) items ≡ None
+put_last : (id : ℕ) (item : Item) (items : List (ℕ × Item)) → lookup (nat_eq id) items ≡ None
     → insert_entry nat_eq items id item ≡ items ++ (id, item) ∷ []
 put_last id item [] h = refl
 put_last id item (x ∷ items) h = go (nat_eq id x.0) h (put_last id item items)
@@ -30,6 +23,12 @@ put_last id item (x ∷ items) h = go (nat_eq id x.0) h (put_last id item items)
         ≡ x ∷ (items ++ (id, item) ∷ [])
     go true e rest = absurd cc
     go false e rest = ap (λ xs. x ∷ xs) (rest e)
+
+pub put_is : (items new : List (ℕ × Item)) (id other : ℕ) (item : Item)
+    → new ≡ insert_entry nat_eq items other item → other ≡ id → lookup (nat_eq id) items ≡ None
+    → new ≡ items ++ (id, item) ∷ []
+put_is items new id other item put same none =
+    put ∙ ap (λ (n : ℕ). insert_entry nat_eq items n item) same ∙ put_last id item items none
 
 not_full : (n : ℕ) → nat_le 65536 n ≡ false → n + 1 ≤ 65536
 not_full n h = grind (arith, nat_tests)
@@ -63,10 +62,6 @@ pub queued_is : (q : ItemsOf) (entry : Entry) (now : ℕ) (items more : List (�
 queued_is q entry now items more kept lines longer answered e is line =
     (λ k. items_of (is k) kept (line k) answered) ∙ ap (λ (p : ItemsOf). queued p entry now) e
 
-none_of : (o : Option Item) → is_some o ≡ false → o ≡ None
-none_of None h = refl
-none_of (Some item) h = absurd cc
-
 -- no item has the id, by what was looked up
 pub none_known : (q : ItemsOf) (id : ℕ) (found : Option (Bor Item))
     → option_copied found ≡ item_in q id → is_some found ≡ false → item_in q id ≡ None
@@ -81,6 +76,5 @@ pub restored_more : (q : ItemsOf) (entry : Entry) (now : ℕ) (items more : List
     → restored q entry now ≡ Some (items_of more (kept + 1) lines answered)
 restored_more q entry now items more kept lines answered e new room is =
     restored_is q entry now (ap is_some new) room
-    ∙ ap (λ x. Some x)
-    (ap (λ (p : ItemsOf). with_item p entry now) (sym e)
+    ∙ ap (λ x. Some x) (ap (λ (p : ItemsOf). with_item p entry now) (sym e)
     ∙ ap (λ m. items_of m (kept + 1) lines answered) (sym is))

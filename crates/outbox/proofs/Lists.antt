@@ -1,10 +1,7 @@
 -- What holds of each item of a list.
-use Rattle.std.proofs.Common.{◌≡◌, ℕ, zero, suc, ◌⊎◌, inl, inr, Bool, true, false}
-use Rattle.std.proofs.Common.{List, [], ◌∷◌, ◌++◌, take, drop, Some, None, refl}
-use Rattle.std.proofs.Common.{arith, cond, subst}
-use Rattle.std.specs.Prelude.{Contains, nat_eq}
-use Rattle.std.specs.List.{AllByRecursion}
-use Rattle.std.specs.Map.{lookup}
+use Rattle.std.proofs.Common.{◌≡◌, ℕ, zero, suc, ◌⊎◌, inl, inr, Bool, true, false, List, [], ◌∷◌}
+use Rattle.std.proofs.Common.{◌++◌, take, drop, Some, None, refl, arith, cond, subst}
+use Rattle.std.specs.{Prelude.Contains, Prelude.nat_eq, List.AllByRecursion, Map.lookup}
 use Rattle.std.proofs.lemmas.Bool.Decides.{nat_tests}
 
 module _ {X : Type 0} where
@@ -37,8 +34,7 @@ module _ {X : Type 0} where
   all_contains P (y ∷ xs) x a (suc k, less, is) =
       all_contains P xs x a.1 (k, omega (arith, less), is)
 
-  pub contains_cases : (y : X) (xs : List X) (x : X) → Contains (y ∷ xs) x
-      → (y ≡ x) ⊎ Contains xs x
+  pub contains_cases : (y : X) (xs : List X) (x : X) → Contains (y ∷ xs) x → (y ≡ x) ⊎ Contains xs x
   contains_cases y xs x (zero, less, is) = inl is
   contains_cases y xs x (suc k, less, is) = inr (k, omega (arith, less), is)
 

@@ -1,7 +1,6 @@
 -- The next item that needs to be submitted.
-use Rattle.std.proofs.Common.{◌≡◌, ℕ, zero, suc, ◌+◌, ◌<◌, Bool, true, false, List, [], ◌∷◌}
-use Rattle.std.proofs.Common.{take, drop, slice_get, Option, Some, None, refl, sym, ap, ◌∙◌, arith}
-use Rattle.std.proofs.Common.{add-one}
+use Rattle.std.proofs.Common.{◌≡◌, zero, Bool, true, false, List, slice_get, Option, arith, add-one}
+use Rattle.std.proofs.Common.{ℕ, suc, ◌+◌, ◌<◌, [], ◌∷◌, take, drop, Some, None, refl, sym, ap, ◌∙◌}
 use Rattle.std.specs.List.{prefix_len}
 use Rattle.outbox.specs.Items.{ItemsOf}
 use Rattle.outbox.specs.Outboxes.{is_decided, is_decided_at, kept_from}

@@ -1,18 +1,14 @@
 -- Of all entries of an id one at most is accepted.
-use Rattle.std.proofs.Common.{◌≡◌, ℕ, zero, suc, ◌<◌, ◌==◌, ◌||◌, Bool, true, false, List, []}
-use Rattle.std.proofs.Common.{◌∷◌, Some, slice_get, take, refl, sym, ap, ◌∙◌, arith}
-use Rattle.std.proofs.Common.{◌⊎◌, inl, inr}
-use Rattle.std.specs.List.{list_any}
-use Rattle.std.specs.Option.{option_map}
-use Rattle.std.proofs.lemmas.Bool.Decides.{nat_tests}
+use Rattle.std.proofs.Common.{◌≡◌, ℕ, zero, suc, ◌<◌, ◌==◌, ◌||◌, Bool, true, false, List, [], ◌∷◌}
+use Rattle.std.proofs.Common.{Some, slice_get, take, refl, sym, ap, ◌∙◌, arith, ◌⊎◌, inl, inr}
+use Rattle.std.{specs.List.list_any, specs.Option.option_map, proofs.lemmas.Bool.Decides.nat_tests}
 use Rattle.acceptor.specs.declared.entry.Entry.{Entry}
-use Rattle.answers.specs.Answers.{texts}
+use Rattle.answers.specs.{Answers.texts, Transcripts.answer_after, Transcripts.answer_at}
 use Rattle.commands.specs.History.{History, SeesEachId, answer_to, entry_refusal_in, history}
 use Rattle.commands.specs.History.{is_seen}
+use Rattle.outbox.specs.Laws.{CountsOnce, StandsAs}
 use Rattle.texts.specs.declared.answer.Answer.TheVariants as answer
 use Rattle.texts.specs.declared.answer.Code.TheVariants as code
-use Rattle.answers.specs.Transcripts.{answer_after, answer_at}
-use Rattle.outbox.specs.Laws.{CountsOnce, StandsAs}
 
 -- an id is among those of the entries before a later position
 seen_before : (log : List Entry) (i j : ℕ) (one : Entry) (id : ℕ) → i < j
@@ -40,7 +36,7 @@ seen_before (x ∷ log) (suc i) (suc j) one id less there is =
     there_too true b e = refl
     there_too false b e = e
 
-repeats : (h : History) (id : ℕ) (text : List ℕ) → is_seen h id ≡ true
+pub repeats : (h : History) (id : ℕ) (text : List ℕ) → is_seen h id ≡ true
     → answer_to h id text ≡ answer.Refused code.Repeat
 unfolding entry_refusal_in
 repeats h id text seen = rw seen refl

@@ -1,18 +1,12 @@
 -- Of an id a journal has one line at most.
 use Rattle.std.proofs.Common.{◌≡◌, ◌∙◌, ℕ, List, [], ◌∷◌, inl, inr, arith, sym, ap, subst}
-use Rattle.std.specs.Prelude.{Contains, nat_eq}
-use Rattle.std.specs.Map.{lookup}
+use Rattle.std.specs.{Prelude.Contains, Prelude.nat_eq, Map.lookup}
 use Rattle.acceptor.specs.declared.entry.Entry.{Entry}
 use Rattle.wire.specs.Entries.{IsEntry}
-use Rattle.outbox.specs.declared.item.Item.{Item}
-use Rattle.outbox.specs.Histories.{PromisesOf, World}
-use Rattle.outbox.specs.Items.{no_items}
-use Rattle.outbox.specs.Laws.{SaysOneEach}
+use Rattle.outbox.specs.{declared.item.Item.Item, Items.no_items, Laws.SaysOneEach}
+use Rattle.outbox.{specs.Histories.PromisesOf, specs.Histories.World, proofs.Reading.line_read}
 use Rattle.outbox.specs.Lines.{HallOf, hall_line, item_line, whole_lines}
-use Rattle.outbox.proofs.Lists.{contains_cases}
-use Rattle.outbox.proofs.Reading.{IsIn, line_read}
-use Rattle.outbox.proofs.Sound.{IsSound}
-use Rattle.outbox.proofs.Spelled.{said_entry}
+use Rattle.outbox.proofs.{Lists.contains_cases, Reading.IsIn, Sound.IsSound, Spelled.said_entry}
 
 -- the first line says no item
 abbrev first_of : List ℕ → ℕ

@@ -1,46 +1,21 @@
 -- The ids by which items are passed over are those of the log, as far as it was looked through.
-use Rattle.std.proofs.Common.{◌≡◌, ℕ, ◌+◌, ◌≤◌, ◌==◌, ◌||◌, max, Bool, true, false, List, []}
-use Rattle.std.proofs.Common.{◌∷◌, ◌++◌, length, take, drop, Some, is_some, refl, sym}
-use Rattle.std.proofs.Common.{ap}
-use Rattle.std.proofs.Common.{◌∙◌, arith, subst, cond, length-append, nat_le}
-use Rattle.std.specs.Prelude.{nat_eq}
-use Rattle.std.specs.List.{list_any, position_from}
-use Rattle.std.proofs.Math.Bool.{or_assoc}
-use Rattle.std.proofs.Math.Seq.{take-length}
-use Rattle.std.proofs.lemmas.Bool.Decides.{nat_tests}
-use Rattle.std.proofs.lemmas.List.{take-append-drop, take-append-le}
-use Rattle.std.proofs.lemmas.List.Folds.{list_any-append}
+use Rattle.std.proofs.Common.{◌≡◌, ℕ, ◌+◌, ◌≤◌, ◌==◌, ◌||◌, max, Bool, true, false, List, [], ◌∷◌}
+use Rattle.std.proofs.Common.{◌++◌, length, take, drop, Some, is_some, refl, sym, ap, ◌∙◌, arith}
+use Rattle.std.proofs.Common.{subst, cond, length-append, nat_le}
+use Rattle.std.specs.{Prelude.nat_eq, List.list_any, List.position_from}
+use Rattle.std.proofs.Math.{Bool.or_assoc, Seq.take-length}
+use Rattle.std.proofs.lemmas.{Bool.Decides.nat_tests, List.Folds.list_any-append}
+use Rattle.std.proofs.lemmas.List.{drop_all, take-append-drop, take-append-le}
 use Rattle.indexmap.specs.IndexSet.{insert_key}
 use Rattle.acceptor.specs.declared.entry.Entry.{Entry}
-use Rattle.wire.specs.declared.frame.FrameBody.{FrameBody}
-use Rattle.wire.specs.declared.frame.FrameBody.TheVariants as what
-use Rattle.desk_talks.specs.Dialogues.{Act, Call as DialogueCall, Hear, Lost, Opened, Sent}
-use Rattle.desk_talks.specs.KeptConnections.{due_of}
-use Rattle.desk_talks.specs.declared.dialogue.ReceiveOutcome.{ReceiveOutcome}
-use Rattle.desk_talks.specs.declared.dialogue.DialogueAction.{DialogueAction}
-use Rattle.desk_talks.specs.declared.dialogue.DialogueAction.TheVariants as wish
-use Rattle.desk_talks.specs.declared.kept_connection.DueAction.{DueAction}
-use Rattle.desk_talks.specs.declared.kept_connection.DueAction.TheVariants as due
-use Rattle.desk_talks.specs.declared.exchange.AnswerOutcome.{AnswerOutcome}
-use Rattle.desk_talks.specs.declared.exchange.AnswerOutcome.TheVariants as heard
-use Rattle.outbox.specs.declared.item.Item.{Item}
 use Rattle.outbox.specs.Histories.{Aim, Answer, Call, CallLeads, History, InDialogue, Kept, Leads}
 use Rattle.outbox.specs.Histories.{Look, LooksAt, LooksBy, NotKept, Restart, Start, Take, Then}
-use Rattle.outbox.specs.Histories.{World}
-use Rattle.outbox.specs.Items.{is_answered}
-use Rattle.outbox.specs.Laws.{PassesOverByTheLog}
-use Rattle.outbox.specs.Lines.{HallOf}
-use Rattle.outbox.specs.Outboxes.{ActsAt, ActsBy, AnswersIf, Asks, AsksIf, AsksNext}
-use Rattle.outbox.specs.Outboxes.{DialogueLeads, Follows, FollowsAnswer, OpensIf, OutboxOf}
-use Rattle.outbox.specs.Outboxes.{is_left, kept_from, looked, noted_all, skipped, with_line}
-use Rattle.outbox.proofs.Looking.{drop_all}
+use Rattle.outbox.specs.Histories.{PromisesOf, World, promises, targets}
+use Rattle.outbox.specs.{Items.is_answered, Laws.PassesOverByTheLog, Lines.HallOf}
+use Rattle.outbox.specs.Outboxes.{AnswersIf, OutboxOf, looked, noted_all}
+use Rattle.outbox.proofs.{Held.sound, Looking.noted_append, Sent.after_dialogue, Sound.IsSound}
 
 -- ---- the ids of entries
-
-noted_append : (keys : List ℕ) (xs ys : List Entry)
-    → noted_all keys (xs ++ ys) ≡ noted_all (noted_all keys xs) ys
-noted_append keys [] ys = refl
-noted_append keys (x ∷ xs) ys = noted_append (insert_key nat_eq keys x.id) xs ys
 
 absorbed : (a b : Bool) → (b ≡ true → a ≡ true) → a ≡ (a || b)
 absorbed true b more = refl
@@ -67,14 +42,12 @@ put_by id key keys false is =
     list_any-append (nat_eq id) keys (key ∷ [])
     ∙ ap (λ b. list_any (nat_eq id) keys || b) (alone id key)
 
-put : (id key : ℕ) (keys : List ℕ)
-    → list_any (nat_eq id) (insert_key nat_eq keys key)
+put : (id key : ℕ) (keys : List ℕ) → list_any (nat_eq id) (insert_key nat_eq keys key)
     ≡ (list_any (nat_eq id) keys || (key == id))
 put id key keys = put_by id key keys (list_any (nat_eq key) keys) refl
 
 module _ (id : ℕ) where
-  known : (xs : List Entry) (keys : List ℕ)
-      → list_any (nat_eq id) (noted_all keys xs)
+  known : (xs : List Entry) (keys : List ℕ) → list_any (nat_eq id) (noted_all keys xs)
       ≡ (list_any (nat_eq id) keys || list_any (λ e. e.id == id) xs)
   known [] keys = no_more (list_any (nat_eq id) keys)
   known (x ∷ xs) keys =
@@ -121,7 +94,7 @@ module _ (held rest : List Entry) (o : OutboxOf) (k : IsKnown (held ++ rest) o) 
       record {
         within = omega (arith, seen, before);
         known_is =
-            ap (noted_all o.decided) (drop_all held o.seen less)
+            ap (noted_all o.decided) (drop_all o.seen held less)
             ∙ k.known_is
             ∙ ap (λ n. noted_all [] (take n (held ++ rest))) (sym seen);
       }
@@ -146,108 +119,17 @@ module _ (held rest : List Entry) (o : OutboxOf) (k : IsKnown (held ++ rest) o) 
   looked_known : IsKnown (held ++ rest) (looked o held)
   looked_known = looked_by (nat_le (length held) o.seen) refl
 
--- ---- what changes nothing of it
-
-record IsAsFar (old new : OutboxOf) : Type 0 where
-  seen : new.seen ≡ old.seen
-  decided : new.decided ≡ old.decided
-
-as_far : (old mid new : OutboxOf) → new ≡ mid → IsAsFar old mid → IsAsFar old new
-as_far old mid new e s = subst (IsAsFar old) (sym e) s
-
-is_as_far : (old mid new : OutboxOf) → new ≡ mid → mid.seen ≡ old.seen
-    → mid.decided ≡ old.decided → IsAsFar old new
-is_as_far old mid new e s d = as_far old mid new e (record { seen = s; decided = d })
-
-far_next : (left : List (ℕ × Item)) (now : ℕ) (old new : OutboxOf) → AsksNext left now old new
-    → IsAsFar old new
-far_next [] now old new none = absurd none
-far_next (pair ∷ more) now old new (line, asks, e) =
-    is_as_far old (with_line old line) new e refl refl
-
-far_ask : (w : DialogueAction) (now : ℕ) (old new : OutboxOf) → Asks w now old new → IsAsFar old new
-far_ask wish.Write now old new asks =
-    far_next (kept_from old.list old.next) now old new asks
-far_ask wish.Close now old new e = is_as_far old _ new e refl refl
-far_ask wish.Rest now old new none = absurd none
-far_ask (wish.Open d) now old new none = absurd none
-far_ask wish.Stop now old new none = absurd none
-
-after_skip : (old new : OutboxOf) → IsAsFar (skipped old) new → IsAsFar old new
-after_skip old new s = record { seen = s.seen; decided = s.decided }
-
-far_ask_if : (left : Bool) (w : DialogueAction) (now : ℕ) (old new : OutboxOf)
-    → AsksIf left w now old new
-    → IsAsFar old new
-far_ask_if true w now old new asks = far_ask w now old new asks
-far_ask_if false w now old new (is, e) = is_as_far old old new e refl refl
-
-far_open_if : (left : Bool) (w : DialogueAction) (now : ℕ) (old new : OutboxOf)
-    → OpensIf left w now old new → IsAsFar old new
-far_open_if true w now old new (is, e) = is_as_far old _ new e refl refl
-far_open_if false w now old new (is, e) = is_as_far old old new e refl refl
-
-far_due : (is : DueAction) (w : DialogueAction) (now : ℕ) (old new : OutboxOf)
-    → ActsBy is w now old new
-    → IsAsFar old new
-far_due due.Rest w now old new (is, e) = is_as_far old old new e refl refl
-far_due due.Open w now old new acts =
-    after_skip old new (far_open_if (is_left (skipped old)) w now (skipped old) new acts)
-far_due due.Ask w now old new acts =
-    after_skip old new (far_ask_if (is_left (skipped old)) w now (skipped old) new acts)
-far_due due.Close w now old new (is, e) = is_as_far old _ new e refl refl
-far_due due.Renew w now old new (is, e) = is_as_far old _ new e refl refl
-
-far_act : (stays : Bool) (w : DialogueAction) (now : ℕ) (old new : OutboxOf)
-    → ActsAt stays w now old new
-    → IsAsFar old new
-far_act true w now old new acts = far_due (due_of old.line now) w now old new acts
-far_act false w now old new (is, e) = is_as_far old _ new e refl refl
-
-far_answer : (answer : FrameBody) (c : ReceiveOutcome) (old new : OutboxOf)
-    → FollowsAnswer answer c old new
-    → IsAsFar old new
-far_answer (what.Taken id) c old new (is, e) = is_as_far old _ new e refl refl
-far_answer _ c old new (is, e) = is_as_far old _ new e refl refl
-
-far_heard : (told : AnswerOutcome) (c : ReceiveOutcome) (old new : OutboxOf)
-    → Follows told c old new
-    → IsAsFar old new
-far_heard heard.Waits c old new (is, e) = is_as_far old old new e refl refl
-far_heard (heard.Answer answer) c old new follows = far_answer answer c old new follows
-far_heard (heard.Refused refusal) c old new (is, e) = is_as_far old _ new e refl refl
-far_heard heard.NoAnswer c old new (is, e) = is_as_far old _ new e refl refl
-
-far_dialogue : (call : DialogueCall) (old new : OutboxOf) → DialogueLeads call old new
-    → IsAsFar old new
-far_dialogue (Act w now) old new acts = far_act (old.aim == old.desk) w now old new acts
-far_dialogue (Opened opened) old new (line, opens, e) = is_as_far old _ new e refl refl
-far_dialogue Lost old new e = is_as_far old _ new e refl refl
-far_dialogue (Sent count) old new e = is_as_far old _ new e refl refl
-far_dialogue (Hear c now piece) old new hears =
-    let s = far_heard hears.heard c (with_line old hears.after) new hears.follows in
-    record { seen = s.seen; decided = s.decided }
-
-far_told : (told : Bool) (id : ℕ) (old new : OutboxOf) → AnswersIf told id old new
-    → IsAsFar old new
-far_told true id old new e = is_as_far old _ new e refl refl
-far_told false id old new e = is_as_far old old new e refl refl
-
 -- ---- all calls
 
 module _ (log : List Entry) where
-  kept_so : (old new : OutboxOf) → IsKnown log old → IsAsFar old new → IsKnown log new
-  kept_so old new k s =
-      let seen = s.seen in
+  kept_so : (old outbox : OutboxOf) (new : World) → new.outbox ≡ outbox → outbox.seen ≡ old.seen
+      → outbox.decided ≡ old.decided → IsKnown log old → IsKnown log new.outbox
+  kept_so old outbox new e seen decided k =
       let before = k.within in
-      record {
+      subst (IsKnown log) (sym e) (record {
         within = omega (arith, seen, before);
-        known_is = s.decided ∙ k.known_is ∙ ap (λ n. noted_all [] (take n log)) (sym s.seen);
-      }
-
-  in_world : (outbox : OutboxOf) (new : World) → new.outbox ≡ outbox → IsKnown log outbox
-      → IsKnown log new.outbox
-  in_world outbox new e k = subst (IsKnown log) (sym e) k
+        known_is = decided ∙ k.known_is ∙ ap (λ n. noted_all [] (take n log)) (sym seen);
+      })
 
   fresh : (o : OutboxOf) → o.seen ≡ 0 → o.decided ≡ [] → IsKnown log o
   fresh o s d = record {
@@ -261,30 +143,32 @@ module _ (log : List Entry) where
       subst (λ (l : List Entry). IsKnown l (looked old held)) is
       (looked_known held rest old (subst (λ (l : List Entry). IsKnown l old) (sym is) k))
 
-  known_after : (hall : HallOf) (call : Call) (old new : World) → IsKnown log old.outbox
-      → LooksBy log call → CallLeads hall call old new → IsKnown log new.outbox
-  known_after hall (Take entry now t) old new k looks (is, list, takes, e) =
-      in_world _ new (ap (λ (w : World). w.outbox) e)
-      (record { within = k.within; known_is = k.known_is })
-  known_after hall Kept old new k looks e =
-      in_world _ new (ap (λ (w : World). w.outbox) e)
-      (record { within = k.within; known_is = k.known_is })
-  known_after hall NotKept old new k looks e =
-      in_world _ new (ap (λ (w : World). w.outbox) e)
-      (record { within = k.within; known_is = k.known_is })
-  known_after hall (Answer held id told) old new k looks (after, answers, e) =
-      in_world after new (ap (λ (w : World). w.outbox) e)
-      (kept_so old.outbox after k (far_told told id old.outbox after answers.1))
-  known_after hall (Look held) old new k (rest, is) e =
-      in_world _ new (ap (λ (w : World). w.outbox) e)
-      (after_looking held old.outbox k rest is)
-  known_after hall (Aim desk) old new k looks e =
-      in_world _ new (ap (λ (w : World). w.outbox) e)
-      (record { within = k.within; known_is = k.known_is })
-  known_after hall (InDialogue call) old new k looks (after, leads, e) =
-      in_world after new (ap (λ (w : World). w.outbox) e)
-      (kept_so old.outbox after k (far_dialogue call old.outbox after leads))
-  known_after hall (Restart more desk now) old new k looks start =
+  told_so : (told : Bool) (id : ℕ) (old outbox : OutboxOf) (new : World) → new.outbox ≡ outbox
+      → AnswersIf told id old outbox → IsKnown log old → IsKnown log new.outbox
+  told_so true id old outbox new e is k = kept_so old _ new (e ∙ is) refl refl k
+  told_so false id old outbox new e is k = kept_so old old new (e ∙ is) refl refl k
+
+  known_after : (hall : HallOf) (desks : List ℕ) (p : PromisesOf) (call : Call) (old new : World)
+      → IsSound hall desks p old → IsKnown log old.outbox → LooksBy log call
+      → CallLeads hall call old new → IsKnown log new.outbox
+  known_after hall desks p (Take entry now t) old new s k looks (is, list, takes, e) =
+      kept_so old.outbox _ new (ap (λ (w : World). w.outbox) e) refl refl k
+  known_after hall desks p Kept old new s k looks e =
+      kept_so old.outbox _ new (ap (λ (w : World). w.outbox) e) refl refl k
+  known_after hall desks p NotKept old new s k looks e =
+      kept_so old.outbox _ new (ap (λ (w : World). w.outbox) e) refl refl k
+  known_after hall desks p (Answer held id told) old new s k looks (after, answers, e) =
+      told_so told id old.outbox after new (ap (λ (w : World). w.outbox) e) answers.1 k
+  known_after hall desks p (Look held) old new s k (rest, is) e =
+      subst (λ (w : World). IsKnown log w.outbox) (sym e) (after_looking held old.outbox k rest is)
+  known_after hall desks p (Aim desk) old new s k looks e =
+      kept_so old.outbox _ new (ap (λ (w : World). w.outbox) e) refl refl k
+  known_after hall desks p (InDialogue call) old new s k looks (after, leads, e) =
+      let so =
+      after_dialogue hall desks p old.file old.outbox.seen old.outbox.decided call old.outbox after
+      (record { sound = s; seen_is = refl; decided_is = refl }) leads in
+      kept_so old.outbox after new (ap (λ (w : World). w.outbox) e) so.seen_is so.decided_is k
+  known_after hall desks p (Restart more desk now) old new s k looks start =
       fresh new.outbox (ap (λ (o : OutboxOf). o.seen) start.fresh)
       (ap (λ (o : OutboxOf). o.decided) start.fresh)
 
@@ -294,13 +178,13 @@ module _ (log : List Entry) where
       fresh w.outbox (ap (λ (o : OutboxOf). o.seen) start.fresh)
       (ap (λ (o : OutboxOf). o.decided) start.fresh)
   known_always hall (Then h call) w looks (before, leads, call_leads) =
-      known_after hall call before w (known_always hall h before looks.0 leads) looks.1 call_leads
+      known_after hall (targets h) (promises h) call before w (sound hall h before leads)
+      (known_always hall h before looks.0 leads) looks.1 call_leads
 
 pub passes_over_by_the_log : PassesOverByTheLog
 passes_over_by_the_log hall h w log pair leads looks =
     let k = known_always log hall h w looks leads in
     let seen = take w.outbox.seen log in
-    ap (λ b. b || is_answered w.outbox.list pair.0)
-    (ap (list_any (nat_eq pair.0)) k.known_is
+    ap (λ b. b || is_answered w.outbox.list pair.0) (ap (list_any (nat_eq pair.0)) k.known_is
     ∙ known pair.0 seen []
     ∙ sym (found pair.0 0 seen))

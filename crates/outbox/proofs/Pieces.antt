@@ -1,10 +1,8 @@
 -- The whole lines of a file, and what is after them.
-use Rattle.std.proofs.Common.{◌≡◌, ◌≢◌, ℕ, ◌<◌, ◌==◌, Bool, true, false, cond, List, [], ◌∷◌, ◌++◌}
+use Rattle.std.proofs.Common.{◌≡◌, ℕ, ◌<◌, ◌==◌, Bool, true, false, cond, List, [], ◌∷◌, ◌++◌}
 use Rattle.std.proofs.Common.{All, length, refl, sym, ap, ◌∙◌, arith, append_assoc}
 use Rattle.std.specs.List.{onto_first}
-use Rattle.std.proofs.lemmas.Bool.Decides.{nat_tests}
-use Rattle.std.proofs.lemmas.List.Elements.{All-weaker}
-use Rattle.std.proofs.lemmas.List.Splits.{length-slice_split, slice_split_at, slice_split_none}
+use Rattle.std.proofs.lemmas.List.Splits.{length-slice_split, slice_split_at}
 use Rattle.outbox.specs.Lines.{all_but_last, cut_line, last_of, parts, whole_lines, with_end}
 
 abbrev pub IsNoEnd : ℕ → Type 0
@@ -56,10 +54,8 @@ parts_after [] after none = refl
 parts_after (b ∷ before) after none =
     step (b == 10) none (λ h. parts_after before after h)
   where
-    step : (t : Bool)
-        → last_of (cond t ([] ∷ parts before) (onto_first b (parts before))) ≡ []
-        → (cut_line before ≡ []
-        → parts (before ++ after) ≡ whole_lines before ++ parts after)
+    step : (t : Bool) → last_of (cond t ([] ∷ parts before) (onto_first b (parts before))) ≡ []
+        → (cut_line before ≡ [] → parts (before ++ after) ≡ whole_lines before ++ parts after)
         → cond t ([] ∷ parts (before ++ after)) (onto_first b (parts (before ++ after)))
         ≡ all_but_last (cond t ([] ∷ parts before) (onto_first b (parts before)))
         ++ parts after
@@ -100,16 +96,3 @@ pub cut_line_after : (line after : List ℕ) → All IsNoEnd line
 cut_line_after line after free =
     ap last_of (line_parts line after free)
     ∙ first_other line (parts after) (some_parts after)
-
-not_end : (b : ℕ) → b ≢ 10 → (b == 10) ≡ false
-not_end b h = grind (arith, nat_tests)
-
-one_part : (cut : List ℕ) → All (λ b. b ≢ 10) cut → parts cut ≡ cut ∷ []
-one_part cut free =
-    slice_split_none (λ b. b == 10) cut (All-weaker (λ b. b ≢ 10) IsNoEnd not_end cut free)
-
-pub whole_none : (cut : List ℕ) → All (λ b. b ≢ 10) cut → whole_lines cut ≡ []
-whole_none cut free = ap all_but_last (one_part cut free)
-
-pub cut_all : (cut : List ℕ) → All (λ b. b ≢ 10) cut → cut_line cut ≡ cut
-cut_all cut free = ap last_of (one_part cut free)

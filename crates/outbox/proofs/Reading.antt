@@ -1,23 +1,17 @@
 -- What reading a journal's lines does.
-use Rattle.std.proofs.Common.{◌≡◌, ℕ, ◌+◌, ◌^◌, ◌<◌, ◌≤◌, ◌⊎◌, inl, inr, Bool, true, false, List}
-use Rattle.std.proofs.Common.{[]}
-use Rattle.std.proofs.Common.{◌∷◌, ◌++◌, length, is_some, Option, Some, None, Ok, refl, sym}
-use Rattle.std.proofs.Common.{ap}
-use Rattle.std.proofs.Common.{◌∙◌, arith, cond, subst, length-append}
-use Rattle.std.specs.Prelude.{Contains, nat_eq}
-use Rattle.std.specs.List.{AllByRecursion}
-use Rattle.std.specs.Map.{lookup}
-use Rattle.indexmap.specs.IndexSet.{insert_key}
+use Rattle.std.proofs.Common.{◌≡◌, ℕ, ◌+◌, ◌^◌, ◌<◌, ◌≤◌, ◌⊎◌, inl, inr, false, List, [], ◌∷◌, ◌++◌}
+use Rattle.std.proofs.Common.{length, is_some, Option, Some, None, Ok, refl, sym, ap, ◌∙◌, arith}
+use Rattle.std.proofs.Common.{subst, length-append}
+use Rattle.std.specs.{Prelude.Contains, Prelude.nat_eq, List.AllByRecursion, Map.lookup}
 use Rattle.acceptor.specs.declared.entry.Entry.{Entry}
-use Rattle.outbox.specs.declared.item.Item.{Item}
-use Rattle.outbox.specs.declared.journal_lines.JournalLine.{JournalLine}
-use Rattle.outbox.specs.declared.journal_lines.JournalLine.TheVariants as line
-use Rattle.outbox.specs.Items.{ItemsOf, is_full, item_in, items_of, no_items, taken_at}
-use Rattle.outbox.specs.Journals.{after_lines, answered_again, followed_if, go_on}
-use Rattle.outbox.specs.Journals.{restored, with_item}
+use Rattle.outbox.specs.declared.{item.Item.Item, journal_lines.JournalLine.JournalLine}
+use Rattle.outbox.specs.Items.{ItemsOf, item_in, no_items, taken_at}
+use Rattle.outbox.specs.Journals.{after_lines, answered_again, followed_if, restored, with_item}
 use Rattle.outbox.specs.Lines.{item_line, said}
+use Rattle.outbox.proofs.Alike.{answered_so, first_fits, restored_so}
 use Rattle.outbox.proofs.Lists.{all_append, contains_cases, found_front, found_last}
 use Rattle.outbox.proofs.Spelled.{IsSpelled, ReadsBack, item_spelled}
+use Rattle.outbox.specs.declared.journal_lines.JournalLine.TheVariants as line
 
 -- what a line that fits does to the items: it puts one more there, or none
 pub record AddsItem (bytes : List ℕ) (now : ℕ) (q next : ItemsOf) : Type 0 where
@@ -40,40 +34,26 @@ none_of None h = refl
 none_of (Some item) h = absurd cc
 
 adds_item : (bytes : List ℕ) (now : ℕ) (q next : ItemsOf) (entry : Entry)
-    → said bytes ≡ Some (line.Item entry) → restored q entry now ≡ Some next
-    → Adds bytes now q next
+    → said bytes ≡ Some (line.Item entry) → restored q entry now ≡ Some next → Adds bytes now q next
 adds_item bytes now q next entry is h =
-    go (is_some (item_in q entry.id)) (is_full q) refl h
-  where
-    go : (known full : Bool) → is_some (item_in q entry.id) ≡ known
-        → cond known None (cond full None (Some (with_item q entry now))) ≡ Some next
-        → Adds bytes now q next
-    go true full k e = absurd cc
-    go false true k e = absurd cc
-    go false false k e = inl (record {
+    let so = restored_so q next entry now h in
+    inl (record {
       entry = entry;
       spelled = item_spelled bytes entry is;
       read = ap said (sym (item_spelled bytes entry is).is) ∙ is;
-      new = none_of (item_in q entry.id) k;
-      becomes = let same : with_item q entry now ≡ next = cc in sym same;
+      new = none_of (item_in q entry.id) so.0;
+      becomes = sym so.2;
     })
 
 adds_answer : (bytes : List ℕ) (now : ℕ) (q next : ItemsOf) (id : ℕ)
     → answered_again q id ≡ Some next → Adds bytes now q next
-adds_answer bytes now q next id h = go (is_some (item_in q id)) h
-  where
-    go : (known : Bool)
-        → cond known (Some (items_of q.items q.kept q.lines (insert_key nat_eq q.answered id))) None
-        ≡ Some next → Adds bytes now q next
-    go false e = absurd cc
-    go true e =
-        let made : ItemsOf = items_of q.items q.kept q.lines (insert_key nat_eq q.answered id) in
-        let same : made ≡ next = cc in
-        inr (record {
-          items = ap (λ (x : ItemsOf). x.items) (sym same);
-          kept = ap (λ (x : ItemsOf). x.kept) (sym same);
-          lines = ap (λ (x : ItemsOf). x.lines) (sym same);
-        })
+adds_answer bytes now q next id h =
+    let same = (answered_so q next id h).1 in
+    inr (record {
+      items = ap (λ (x : ItemsOf). x.items) (sym same);
+      kept = ap (λ (x : ItemsOf). x.kept) (sym same);
+      lines = ap (λ (x : ItemsOf). x.lines) (sym same);
+    })
 
 adds_said : (bytes : List ℕ) (now : ℕ) (q next : ItemsOf) (o : Option JournalLine) → said bytes ≡ o
     → followed_if q now o ≡ Some next → Adds bytes now q next
@@ -90,24 +70,13 @@ adds bytes now q next h = adds_said bytes now q next (said bytes) refl h
 module _ (P : ItemsOf → Type 0) (now : ℕ) (all : List (List ℕ))
     (steps : (bytes : List ℕ) (q next : ItemsOf) → Contains all bytes → Adds bytes now q next → P q
     → P next) where
-  go_over : (q r : ItemsOf) (number : ℕ) (lines : List (List ℕ))
-      → AllByRecursion (Contains all) lines → P q → after_lines q now number lines ≡ Ok r → P r
-  go_over q r number [] c p e = let same : q ≡ r = cc in subst P same p
-  go_over q r number (bytes ∷ lines) c p e =
-      step (followed_if q now (said bytes)) refl e
-      (λ next q' s. go_over next r (number + 1) lines c.1 q' s)
-    where
-      step : (o : Option ItemsOf) → followed_if q now (said bytes) ≡ o
-          → go_on o number (λ next. after_lines next now (number + 1) lines) ≡ Ok r
-          → ((next : ItemsOf) → P next → after_lines next now (number + 1) lines ≡ Ok r → P r)
-          → P r
-      step None is h rest = absurd cc
-      step (Some next) is h rest =
-          rest next (steps bytes q next c.0 (adds bytes now q next is) p) h
-
   pub over_lines : (q r : ItemsOf) (number : ℕ) (lines : List (List ℕ))
       → AllByRecursion (Contains all) lines → P q → after_lines q now number lines ≡ Ok r → P r
-  over_lines q r number lines c p e = go_over q r number lines c p e
+  over_lines q r number [] c p e = let same : q ≡ r = cc in subst P same p
+  over_lines q r number (bytes ∷ lines) c p e =
+      let first = first_fits q r now number bytes lines e in
+      over_lines first.next r (number + 1) lines c.1
+      (steps bytes q first.next c.0 (adds bytes now q first.next first.is) p) first.reads
 
 -- ---- what is read
 
@@ -203,29 +172,19 @@ module _ (now : ℕ) (entry : Entry) where
   comes : ReadsBack entry → (q next : ItemsOf)
       → followed_if q now (said (item_line entry)) ≡ Some next → IsIn next.items entry
   comes read q next h =
-      go (is_some (item_in q entry.id)) (is_full q) refl
-      (sym (ap (followed_if q now) read) ∙ h)
-    where
-      go : (known full : Bool) → is_some (item_in q entry.id) ≡ known
-          → cond known None (cond full None (Some (with_item q entry now))) ≡ Some next
-          → IsIn next.items entry
-      go true full k e = absurd cc
-      go false true k e = absurd cc
-      go false false k e =
-          let same : with_item q entry now ≡ next = cc in
-          subst (λ (x : ItemsOf). IsIn x.items entry) same
-          (in_last q.items entry now (none_of (item_in q entry.id) k))
+      let so = restored_so q next entry now (sym (ap (followed_if q now) read) ∙ h) in
+      subst (λ (x : ItemsOf). IsIn x.items entry) so.2
+      (in_last q.items entry now (none_of (item_in q entry.id) so.0))
 
   pub line_read : ReadsBack entry → (q r : ItemsOf) (number : ℕ) (lines : List (List ℕ))
       → after_lines q now number lines ≡ Ok r
-      → IsIn q.items entry ⊎ Contains lines (item_line entry)
-      → IsIn r.items entry
+      → IsIn q.items entry ⊎ Contains lines (item_line entry) → IsIn r.items entry
   line_read read q r number [] e (inl i) = let same : q ≡ r = cc in
       subst (λ (x : ItemsOf). IsIn x.items entry) same i
   line_read read q r number [] e (inr (k, less, is)) = absurd (omega (arith, less))
   line_read read q r number (bytes ∷ lines) e known =
-      step (followed_if q now (said bytes)) refl e
-      (λ next k s. line_read read next r (number + 1) lines s k)
+      let first = first_fits q r now number bytes lines e in
+      line_read read first.next r (number + 1) lines first.reads (on first.next first.is known)
     where
       on : (next : ItemsOf) → followed_if q now (said bytes) ≡ Some next
           → IsIn q.items entry ⊎ Contains (bytes ∷ lines) (item_line entry)
@@ -238,11 +197,3 @@ module _ (now : ℕ) (entry : Entry) where
                 (subst (λ (b : List ℕ). followed_if q now (said b) ≡ Some next) same is))
             | inr later ↦ inr later
           ]
-
-      step : (o : Option ItemsOf) → followed_if q now (said bytes) ≡ o
-          → go_on o number (λ next. after_lines next now (number + 1) lines) ≡ Ok r
-          → ((next : ItemsOf) → IsIn next.items entry ⊎ Contains lines (item_line entry)
-          → after_lines next now (number + 1) lines ≡ Ok r → IsIn r.items entry)
-          → IsIn r.items entry
-      step None is h rest = absurd cc
-      step (Some next) is h rest = rest next (on next is known) h

@@ -1,58 +1,75 @@
 -- What is on its way to a desk stays a Submit of an item whose line is in the file.
-use Rattle.std.proofs.Common.{◌≡◌, ℕ, ◌==◌, Bool, true, false, List, [], ◌∷◌}
-use Rattle.std.proofs.Common.{refl, sym, ap, ◌∙◌, subst}
-use Rattle.std.specs.Prelude.{Contains}
-use Rattle.std.specs.List.{AllByRecursion}
+use Rattle.std.proofs.Common.{◌≡◌, ℕ, ◌==◌, Bool, true, false, List, [], ◌∷◌, refl, sym, ap, ◌∙◌}
+use Rattle.std.{proofs.Common.subst, specs.Prelude.Contains, specs.List.AllByRecursion}
 use Rattle.acceptor.specs.declared.entry.Entry.{Entry}
 use Rattle.wire.specs.declared.frame.FrameBody.{FrameBody}
-use Rattle.wire.specs.declared.frame.FrameBody.TheVariants as what
 use Rattle.desk_talks.specs.Dialogues.{Act, Call, Hear, Lost, Opened, Sent}
 use Rattle.desk_talks.specs.KeptConnections.{KeptConnectionOf, due_of, opening}
 use Rattle.desk_talks.specs.declared.dialogue.ReceiveOutcome.{ReceiveOutcome}
 use Rattle.desk_talks.specs.declared.dialogue.DialogueAction.{DialogueAction}
-use Rattle.desk_talks.specs.declared.dialogue.DialogueAction.TheVariants as wish
-use Rattle.desk_talks.specs.declared.kept_connection.DueAction.{DueAction}
-use Rattle.desk_talks.specs.declared.kept_connection.DueAction.TheVariants as due
+use Rattle.desk_talks.{specs.declared.kept_connection.DueAction.DueAction, proofs.Saying.sent_over}
 use Rattle.desk_talks.specs.declared.exchange.AnswerOutcome.{AnswerOutcome}
-use Rattle.desk_talks.specs.declared.exchange.AnswerOutcome.TheVariants as heard
 use Rattle.desk_talks.proofs.Saying.{SaysOver, asks_over, hears_over, opens_over, says_wider}
-use Rattle.desk_talks.proofs.Saying.{sent_over}
-use Rattle.outbox.specs.declared.item.Item.{Item}
+use Rattle.outbox.specs.{declared.item.Item.Item, Lines.HallOf}
 use Rattle.outbox.specs.Histories.{PromisesOf, World, world}
-use Rattle.outbox.specs.Lines.{HallOf}
-use Rattle.outbox.specs.Outboxes.{ActsAt, ActsBy, Asks, AsksIf, AsksNext, DialogueLeads}
-use Rattle.outbox.specs.Outboxes.{Follows, FollowsAnswer, OpensIf, OutboxOf}
-use Rattle.outbox.specs.Outboxes.{is_left, kept_from, looked, lost, refused_with, skipped}
-use Rattle.outbox.specs.Outboxes.{submit_request, took, with_line}
-use Rattle.outbox.proofs.Crash.{InStep}
-use Rattle.outbox.proofs.Lists.{all_drop}
-use Rattle.outbox.proofs.Reading.{HasLine}
+use Rattle.outbox.specs.Outboxes.{ActsAt, ActsBy, AsksIf, gone_on, is_left, looked, skipped, took}
+use Rattle.outbox.specs.Outboxes.{Asks, DialogueLeads, FollowsAnswer, refused_with, submit_request}
+use Rattle.outbox.specs.Outboxes.{AsksNext, Follows, OpensIf, OutboxOf, kept_from, lost, with_line}
+use Rattle.outbox.proofs.{Crash.InStep, Lists.all_drop, Reading.HasLine}
 use Rattle.outbox.proofs.Sound.{AreKept, IsQuestion, IsSound, Promises}
+use Rattle.wire.specs.declared.frame.FrameBody.TheVariants as what
+use Rattle.desk_talks.specs.declared.dialogue.DialogueAction.TheVariants as wish
+use Rattle.desk_talks.specs.declared.kept_connection.DueAction.TheVariants as due
+use Rattle.desk_talks.specs.declared.exchange.AnswerOutcome.TheVariants as heard
 
-module _ (hall : HallOf) (desks : List ℕ) (p : PromisesOf) (file : List ℕ) where
-  abbrev Sound : OutboxOf → Type 0
-  Sound o = IsSound hall desks p (world o file)
+-- the same items, of the same hall
+sound_as : (hall : HallOf) (desks : List ℕ) (p : PromisesOf) (file : List ℕ) (old new : OutboxOf)
+    (s : IsSound hall desks p (world old file)) → new.hall ≡ old.hall → new.list ≡ old.list
+    → Contains desks new.desk → new.aim ≡ old.aim
+    → SaysOver (IsQuestion hall.number desks s.tail) new.line.talking
+    → IsSound hall desks p (world new file)
+sound_as hall desks p file old new s h l d a says = record {
+  number = h ∙ s.number;
+  desk = d;
+  aim = subst (Contains desks) (sym a) s.aim;
+  tail = s.tail;
+  named = s.named;
+  ends = s.ends;
+  keeps = subst (λ list. AreKept s.tail list) (sym l) s.keeps;
+  promised = subst (λ list. Promises s.tail list p) (sym l) s.promised;
+  step = subst (λ list. InStep s.tail list) (sym l) s.step;
+  says = says;
+}
 
-  -- the same items, of the same hall
-  pub same : (old new : OutboxOf) (s : Sound old) → new.hall ≡ old.hall → new.list ≡ old.list
-      → new.desk ≡ old.desk → new.aim ≡ old.aim
-      → SaysOver (IsQuestion hall.number desks s.tail) new.line.talking → Sound new
-  same old new s h l d a says = record {
-    number = h ∙ s.number;
-    desk = subst (Contains desks) (sym d) s.desk;
-    aim = subst (Contains desks) (sym a) s.aim;
-    tail = s.tail;
-    named = s.named;
-    ends = s.ends;
-    keeps = subst (λ list. AreKept s.tail list) (sym l) s.keeps;
-    promised = subst (λ list. Promises s.tail list p) (sym l) s.promised;
-    step = subst (λ list. InStep s.tail list) (sym l) s.step;
-    says = says;
+pub after_look : (hall : HallOf) (desks : List ℕ) (p : PromisesOf) (file : List ℕ)
+    (log : List Entry) (old : OutboxOf) → IsSound hall desks p (world old file)
+    → IsSound hall desks p (world (looked old log) file)
+after_look hall desks p file log old s =
+    sound_as hall desks p file old (looked old log) s refl refl s.desk refl s.says
+
+module _ (hall : HallOf) (desks : List ℕ) (p : PromisesOf) (file : List ℕ) (seen : ℕ)
+    (decided : List ℕ) where
+  -- sound, and the log was looked through as far
+  pub record Sound (o : OutboxOf) : Type 0 where
+    pub sound : IsSound hall desks p (world o file)
+    pub seen_is : o.seen ≡ seen
+    pub decided_is : o.decided ≡ decided
+
+  -- the same items, of the same hall, and the same of the log
+  same : (old new : OutboxOf) (s : Sound old) → new.seen ≡ old.seen → new.decided ≡ old.decided
+      → new.hall ≡ old.hall → new.list ≡ old.list → Contains desks new.desk → new.aim ≡ old.aim
+      → SaysOver (IsQuestion hall.number desks s.sound.tail) new.line.talking → Sound new
+  same old new s n k h l d a says = record {
+    sound = sound_as hall desks p file old new s.sound h l d a says;
+    seen_is = n ∙ s.seen_is;
+    decided_is = k ∙ s.decided_is;
   }
 
   over : (old : OutboxOf) (line : KeptConnectionOf) (s : Sound old)
-      → SaysOver (IsQuestion hall.number desks s.tail) line.talking → Sound (with_line old line)
-  over old line s says = same old (with_line old line) s refl refl refl refl says
+      → SaysOver (IsQuestion hall.number desks s.sound.tail) line.talking
+      → Sound (with_line old line)
+  over old line s says =
+      same old (with_line old line) s refl refl refl refl s.sound.desk refl says
 
   after_lost : (old new : OutboxOf) → Sound old → new ≡ lost old → Sound new
   after_lost old new s e = subst Sound (sym e) (over old _ s tt)
@@ -61,7 +78,7 @@ module _ (hall : HallOf) (desks : List ℕ) (p : PromisesOf) (file : List ℕ) w
   as_it_was old new s e = subst Sound (sym e) s
 
   after_skip : (old : OutboxOf) → Sound old → Sound (skipped old)
-  after_skip old s = same old (skipped old) s refl refl refl refl s.says
+  after_skip old s = same old (skipped old) s refl refl refl refl s.sound.desk refl s.sound.says
 
   -- ---- what is done
 
@@ -69,19 +86,17 @@ module _ (hall : HallOf) (desks : List ℕ) (p : PromisesOf) (file : List ℕ) w
       → Sound old → kept_from old.list old.next ≡ left → AsksNext left now old new → Sound new
   after_next [] now old new s is none = absurd none
   after_next (pair ∷ more) now old new s is (line, asks, e) =
-      let rest : AllByRecursion (HasLine s.tail) (pair ∷ more) =
-      subst (AllByRecursion (HasLine s.tail)) is
-      (all_drop (HasLine s.tail) old.next _ s.keeps.kept) in
-      subst Sound (sym e)
-      (over old line s
-      (asks_over (IsQuestion hall.number desks s.tail) now
-      (submit_request old.hall old.desk pair.1.entry) old.line line
-      (record {
+      let tail = s.sound.tail in
+      let rest : AllByRecursion (HasLine tail) (pair ∷ more) =
+      subst (AllByRecursion (HasLine tail)) is
+      (all_drop (HasLine tail) old.next _ s.sound.keeps.kept) in
+      subst Sound (sym e) (over old line s (asks_over (IsQuestion hall.number desks tail) now
+      (submit_request old.hall old.desk pair.1.entry) old.line line (record {
         desk = old.desk;
         entry = pair.1.entry;
-        aimed = s.desk;
+        aimed = s.sound.desk;
         line = rest.0;
-        is = ap (λ h. submit_request h old.desk pair.1.entry) s.number;
+        is = ap (λ h. submit_request h old.desk pair.1.entry) s.sound.number;
       }) asks))
 
   after_ask : (w : DialogueAction) (now : ℕ) (old new : OutboxOf) → Sound old → Asks w now old new
@@ -89,9 +104,7 @@ module _ (hall : HallOf) (desks : List ℕ) (p : PromisesOf) (file : List ℕ) w
   after_ask wish.Write now old new s asks =
       after_next (kept_from old.list old.next) now old new s refl asks
   after_ask wish.Close now old new s e = after_lost old new s e
-  after_ask wish.Rest now old new s none = absurd none
-  after_ask (wish.Open d) now old new s none = absurd none
-  after_ask wish.Stop now old new s none = absurd none
+  after_ask _ now old new s none = absurd none
 
   ask_if : (left : Bool) (w : DialogueAction) (now : ℕ) (old new : OutboxOf) → Sound old
       → AsksIf left w now old new → Sound new
@@ -118,25 +131,15 @@ module _ (hall : HallOf) (desks : List ℕ) (p : PromisesOf) (file : List ℕ) w
       → ActsAt stays w now old new → Sound new
   after_at true w now old new s acts = after_due (due_of old.line now) w now old new s acts
   after_at false w now old new s (is, e) =
-      subst Sound (sym e) (record {
-        number = s.number;
-        desk = s.aim;
-        aim = s.aim;
-        tail = s.tail;
-        named = s.named;
-        ends = s.ends;
-        keeps = s.keeps;
-        promised = s.promised;
-        step = s.step;
-        says = tt;
-      })
+      subst Sound (sym e) (same old (gone_on old) s refl refl refl refl s.sound.aim refl tt)
 
   -- ---- what comes
 
   after_answer : (answer : FrameBody) (c : ReceiveOutcome) (old new : OutboxOf) → Sound old
       → FollowsAnswer answer c old new → Sound new
   after_answer (what.Taken id) c old new s (is, e) =
-      subst Sound (sym e) (same old (took old id) s refl refl refl refl s.says)
+      subst Sound (sym e)
+      (same old (took old id) s refl refl refl refl s.sound.desk refl s.sound.says)
   after_answer _ c old new s (is, e) = after_lost old new s e
 
   after_heard : (told : AnswerOutcome) (c : ReceiveOutcome) (old new : OutboxOf) → Sound old
@@ -144,7 +147,8 @@ module _ (hall : HallOf) (desks : List ℕ) (p : PromisesOf) (file : List ℕ) w
   after_heard heard.Waits c old new s (is, e) = as_it_was old new s e
   after_heard (heard.Answer answer) c old new s follows = after_answer answer c old new s follows
   after_heard (heard.Refused refusal) c old new s (is, e) =
-      subst Sound (sym e) (same old (refused_with old refusal) s refl refl refl refl s.says)
+      subst Sound (sym e)
+      (same old (refused_with old refusal) s refl refl refl refl s.sound.desk refl s.sound.says)
   after_heard heard.NoAnswer c old new s (is, e) = after_lost old new s e
 
   -- ---- all calls of the dialogue
@@ -154,22 +158,16 @@ module _ (hall : HallOf) (desks : List ℕ) (p : PromisesOf) (file : List ℕ) w
   after_dialogue (Act w now) old new s acts =
       after_at (old.aim == old.desk) w now old new s acts
   after_dialogue (Opened opened) old new s (line, opens, e) =
-      subst Sound (sym e)
-      (over old line s
-      (opens_over (IsQuestion hall.number desks s.tail) opened old.line line opens))
-  after_dialogue Lost old new s e = after_lost old new s e
+      subst Sound (sym e) (over old line s
+      (opens_over (IsQuestion hall.number desks s.sound.tail) opened old.line line opens))
+  after_dialogue (Lost ended) old new s e = after_lost old new s e
   after_dialogue (Sent count) old new s e =
-      subst Sound (sym e)
-      (over old _ s (sent_over (IsQuestion hall.number desks s.tail) count old.line s.says))
+      subst Sound (sym e) (over old _ s
+      (sent_over (IsQuestion hall.number desks s.sound.tail) count old.line s.sound.says))
   after_dialogue (Hear c now piece) old new s hears =
-      after_heard hears.heard c (with_line old hears.after) new
-      (over old hears.after s
-      (hears_over (IsQuestion hall.number desks s.tail) hears.heard piece old.line hears.after
-      s.says hears.hears))
-      hears.follows
-
-  pub after_look : (log : List Entry) (old : OutboxOf) → Sound old → Sound (looked old log)
-  after_look log old s = same old (looked old log) s refl refl refl refl s.says
+      after_heard hears.heard c (with_line old hears.after) new (over old hears.after s
+      (hears_over (IsQuestion hall.number desks s.sound.tail) hears.heard piece old.line
+      hears.after s.sound.says hears.hears)) hears.follows
 
 -- ---- more desks
 

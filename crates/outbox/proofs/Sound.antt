@@ -1,34 +1,22 @@
 -- An outbox and its journal stay sound, whatever calls are made.
-use Rattle.std.proofs.Common.{◌≡◌, ℕ, ◌^◌, ◌<◌, ◌≤◌, inr}
-use Rattle.std.proofs.Common.{List, []}
-use Rattle.std.proofs.Common.{◌∷◌, ◌++◌, length, take, drop, None, Ok, refl, sym}
-use Rattle.std.proofs.Common.{ap, All}
-use Rattle.std.proofs.Common.{◌∙◌, arith, subst, length-append}
-use Rattle.std.specs.Prelude.{Contains}
-use Rattle.std.specs.List.{AllByRecursion}
-use Rattle.std.proofs.Math.Seq.{take-length}
-use Rattle.std.proofs.lemmas.List.{drop-append-le, length-take-le, take-append-drop}
-use Rattle.std.proofs.lemmas.List.{take-append-le}
+use Rattle.std.proofs.Common.{◌≡◌, ℕ, ◌^◌, ◌<◌, ◌≤◌, inr, List, [], ◌∷◌, ◌++◌, length, take, drop}
+use Rattle.std.proofs.Common.{None, Ok, refl, sym, ap, All, ◌∙◌, arith, subst, length-append}
+use Rattle.std.{specs.Prelude.Contains, specs.List.AllByRecursion, proofs.Math.Seq.take-length}
+use Rattle.std.proofs.lemmas.List.{drop-append-le, length-take-le, take-append-drop, take-append-le}
 use Rattle.std.proofs.lemmas.List.Elements.{Contains-append_left, Contains-append_right}
 use Rattle.acceptor.specs.declared.entry.Entry.{Entry}
 use Rattle.wire.specs.declared.frame.Frame.{Frame}
 use Rattle.desk_talks.proofs.Saying.{SaysOver}
-use Rattle.outbox.specs.declared.item.Item.{Item}
+use Rattle.outbox.specs.{declared.item.Item.Item, Items.with_answer, Journals.after_lines}
 use Rattle.outbox.specs.Histories.{IsStarted, PromisesOf, World, promises_of}
-use Rattle.outbox.specs.Items.{ItemsOf, all_kept}
-use Rattle.outbox.specs.Items.{item_in}
-use Rattle.outbox.specs.Items.{no_items, queued, taken_at, taken_back}
-use Rattle.outbox.specs.Items.{with_answer}
-use Rattle.outbox.specs.Journals.{after_lines}
+use Rattle.outbox.specs.Items.{ItemsOf, all_kept, item_in, no_items, queued, taken_at, taken_back}
 use Rattle.outbox.specs.Lines.{HallOf, answered_line, cut_line, hall_line, item_line, whole_lines}
 use Rattle.outbox.specs.Lines.{with_end}
 use Rattle.outbox.specs.Outboxes.{OutboxOf, new_outbox, submit_request}
 use Rattle.outbox.proofs.Additions.{ends_more, has_new, read_from, wide}
-use Rattle.outbox.proofs.Crash.{InStep, step_read}
+use Rattle.outbox.proofs.{Crash.InStep, Crash.step_read, Pieces.IsNoEnd, Reading.line_read}
 use Rattle.outbox.proofs.Lists.{all_append, all_take, all_weaker, contains_next}
-use Rattle.outbox.proofs.Pieces.{IsNoEnd}
 use Rattle.outbox.proofs.Reading.{HasLine, IsIn, IsKeyed, IsRead, in_front, in_last, is_read}
-use Rattle.outbox.proofs.Reading.{line_read}
 use Rattle.outbox.proofs.Spelled.{IsFit, ReadsBack, answered_no_end, item_no_end, said_item}
 
 -- a Submit of an entry whose line is among these, for one of the desks
@@ -97,9 +85,6 @@ none_due P (x ∷ xs) = none_due P xs
 
 module _ (tail : List (List ℕ)) (q : ItemsOf) (entry : Entry) (now : ℕ) (k : AreKept tail q)
     (fit : IsFit entry) (new : item_in q entry.id ≡ None) where
-  one : ℕ × Item
-  one = (entry.id, taken_at entry now)
-
   free : All IsNoEnd (item_line entry)
   free = item_no_end entry fit
 
@@ -115,8 +100,7 @@ module _ (tail : List (List ℕ)) (q : ItemsOf) (entry : Entry) (now : ℕ) (k :
       (sym (drop-append-le q.kept q.items (pair ∷ []) k.within))
       (all_append (HasLine more) (drop q.kept q.items) (pair ∷ [])
       (lines_wider (whole_lines q.lines) more (wide q.lines (item_line entry) k.ends free)
-      (drop q.kept q.items) k.due)
-      (has_new q.lines (item_line entry) k.ends free, tt))
+      (drop q.kept q.items) k.due) (has_new q.lines (item_line entry) k.ends free, tt))
 
   pub queued_kept : AreKept tail (queued q entry now)
   queued_kept =
@@ -146,8 +130,7 @@ module _ (tail : List (List ℕ)) (q : ItemsOf) (entry : Entry) (now : ℕ) (k :
       let items = q.items ++ pair ∷ [] in
       record {
         made =
-            subst (λ front. AllByRecursion (IsPromised tail front) p.made) (sym front_same)
-            m.made;
+            subst (λ front. AllByRecursion (IsPromised tail front) p.made) (sym front_same) m.made;
         due =
             all_append (IsPromised more items) p.due (entry ∷ [])
             (promised_wider (whole_lines q.lines) more q.items items
@@ -198,8 +181,7 @@ module _ (tail : List (List ℕ)) (q : ItemsOf) (k : AreKept tail q) where
       record {
         made =
             subst (λ front. AllByRecursion (IsPromised more front) (p.made ++ p.due))
-            (sym (take-length q.items))
-            (all_append (IsPromised more q.items) p.made p.due
+            (sym (take-length q.items)) (all_append (IsPromised more q.items) p.made p.due
             (promised_wider tail more (take q.kept q.items) q.items
             (Contains-append_left tail (whole_lines q.lines)) in_all p.made m.made)
             (promised_wider (whole_lines q.lines) more q.items q.items
@@ -246,8 +228,7 @@ module _ (tail : List (List ℕ)) (q : ItemsOf) (k : AreKept tail q) where
       keyed = k.keyed;
       kept = k.kept;
       due =
-          lines_wider (whole_lines q.lines)
-          (whole_lines (q.lines ++ with_end (answered_line id)))
+          lines_wider (whole_lines q.lines) (whole_lines (q.lines ++ with_end (answered_line id)))
           (wide q.lines (answered_line id) k.ends answer_free) (drop q.kept q.items) k.due;
     }
 
@@ -300,8 +281,7 @@ module _ (now : ℕ) (tail : List (List ℕ)) (q : ItemsOf)
     read_promised made all = record {
       made =
           subst (λ front. AllByRecursion (IsPromised tail front) made) (sym whole_front)
-          (all_weaker (IsWritten tail) (IsPromised tail q.items)
-          (λ e i. record {
+          (all_weaker (IsWritten tail) (IsPromised tail q.items) (λ e i. record {
             read = i.read;
             line = i.line;
             listed = line_read now e i.read no_items q 2 tail reads (inr i.line);
@@ -313,8 +293,7 @@ module _ (now : ℕ) (tail : List (List ℕ)) (q : ItemsOf)
 pub started : (hall : HallOf) (desk now : ℕ) (bytes : List ℕ) (w : World) (desks : List ℕ)
     (made : List Entry) → Contains desks desk → IsStarted hall desk now bytes w
     → ((tail : List (List ℕ)) → whole_lines bytes ≡ hall_line hall ∷ tail
-    → AllByRecursion (IsWritten tail) made)
-    → IsSound hall desks (promises_of made []) w
+    → AllByRecursion (IsWritten tail) made) → IsSound hall desks (promises_of made []) w
 started hall desk now bytes w desks made here s written =
     let r = read_from hall now (whole_lines bytes) s.list s.reads in
     let o = new_outbox hall.number desk s.list in

@@ -1,25 +1,19 @@
 -- The lines of items and answers say just these.
-use Rattle.std.proofs.Common.{◌≡◌, ℕ, ◌-◌, ◌^◌, ◌<◌, ◌≤◌, ◌==◌, ◌&&◌, not, Bool, true, false}
-use Rattle.std.proofs.Common.{List, [], ◌∷◌, ◌++◌, All, length, codes, decimal, nat_le, Option}
-use Rattle.std.proofs.Common.{Some, None, refl, sym, ap, ◌∙◌, arith, subst, cond}
-use Rattle.std.specs.Prelude.{bytes_eq}
-use Rattle.std.specs.Char.{is_ascii_digit}
-use Rattle.std.specs.List.{list_all}
-use Rattle.std.specs.Option.{option_map}
-use Rattle.std.proofs.lemmas.Bool.Decides.{nat_tests}
-use Rattle.std.proofs.lemmas.List.Elements.{All-cons, All-nil}
-use Rattle.std.proofs.lemmas.Slice.Eq.{bytes_eq-Decides}
+use Rattle.std.proofs.Common.{◌≡◌, ℕ, ◌-◌, ◌^◌, ◌<◌, ◌≤◌, ◌==◌, ◌&&◌, not, Bool, true, false, List}
+use Rattle.std.proofs.Common.{[], ◌∷◌, ◌++◌, All, length, codes, decimal, nat_le, Option, Some}
+use Rattle.std.proofs.Common.{None, refl, sym, ap, ◌∙◌, arith, subst, cond}
+use Rattle.std.specs.{Prelude.bytes_eq, Char.is_ascii_digit, List.list_all, Option.option_map}
+use Rattle.std.proofs.lemmas.{Bool.Decides.nat_tests, Slice.Eq.bytes_eq-Decides}
+use Rattle.std.proofs.lemmas.List.{Folds.list_all-append, Elements.All-cons, Elements.All-nil}
 use Rattle.acceptor.specs.declared.entry.Entry.{Entry}
-use Rattle.texts.specs.Fields.{cut, number_between}
-use Rattle.texts.specs.Numerals.{digits_value, within}
+use Rattle.texts.specs.{Fields.cut, Fields.number_between, Numerals.digits_value, Numerals.within}
 use Rattle.texts.proofs.Cuts.{and-true, behind, cut-behind, cut_spelled, lacks}
 use Rattle.texts.proofs.FieldSpellings.{decimal_digits, decimal_no_space}
 use Rattle.texts.proofs.Numerals.{number_between-decimal}
-use Rattle.outbox.specs.declared.journal_lines.JournalLine.TheVariants as line
-use Rattle.outbox.specs.Items.{is_line}
-use Rattle.outbox.specs.Lines.{answered_line, id_of, answered_of, item_by, item_line, item_of}
-use Rattle.outbox.specs.Lines.{said, said_after, said_by}
+use Rattle.outbox.specs.{Items.is_line, Lines.said_after, Lines.said_by}
+use Rattle.outbox.specs.Lines.{answered_line, id_of, answered_of, item_by, item_line, item_of, said}
 use Rattle.outbox.proofs.Pieces.{IsNoEnd}
+use Rattle.outbox.specs.declared.journal_lines.JournalLine.TheVariants as line
 
 -- an entry that can be on a line
 pub record IsFit (entry : Entry) : Type 0 where
@@ -64,10 +58,8 @@ said_answered id first last =
 
 lacks-append : (by : ℕ) (xs ys : List ℕ) → lacks by xs ≡ true → lacks by ys ≡ true
     → lacks by (xs ++ ys) ≡ true
-lacks-append by [] ys front back = back
-lacks-append by (x ∷ xs) ys front back =
-    let both = and-true (not (x == by)) (lacks by xs) front in
-    rw (both.0, lacks-append by xs ys both.1 back) refl
+lacks-append by xs ys front back =
+    list_all-append (λ b. not (b == by)) xs ys ∙ rw (front, back) refl
 
 digit_other : (b : ℕ) → is_ascii_digit b ≡ true → not (b == 10) ≡ true
 digit_other b h = grind (arith, nat_tests)
@@ -81,25 +73,26 @@ digits_lack (b ∷ bytes) h =
 decimal_lacks : (n : ℕ) → n < 2 ^ 63 → lacks 10 (decimal n) ≡ true
 decimal_lacks n small = digits_lack (decimal n) (decimal_digits n (omega arith))
 
-no_end_of : (b : ℕ) → not (b == 10) ≡ true → (b == 10) ≡ false
-no_end_of b h = grind (arith, nat_tests)
+other_byte : (by b : ℕ) → not (b == by) ≡ true → (b == by) ≡ false
+other_byte by b h = grind (arith, nat_tests)
 
-all_of : (bytes : List ℕ) → lacks 10 bytes ≡ true → All IsNoEnd bytes
-all_of [] h = All-nil IsNoEnd
-all_of (b ∷ bytes) h =
-    let both = and-true (not (b == 10)) (lacks 10 bytes) h in
-    All-cons IsNoEnd b bytes (no_end_of b both.0) (all_of bytes both.1)
+pub all_other : (by : ℕ) (bytes : List ℕ) → lacks by bytes ≡ true
+    → All (λ b. (b == by) ≡ false) bytes
+all_other by [] h = All-nil (λ b. (b == by) ≡ false)
+all_other by (b ∷ bytes) h =
+    let both = and-true (not (b == by)) (lacks by bytes) h in
+    All-cons (λ x. (x == by) ≡ false) b bytes (other_byte by b both.0) (all_other by bytes both.1)
 
 pub item_no_end : (entry : Entry) → IsFit entry → All IsNoEnd (item_line entry)
 item_no_end entry fit =
-    all_of (item_line entry)
+    all_other 10 (item_line entry)
     (lacks-append 10 (codes "item ") (decimal entry.id ++ 32 ∷ entry.text) refl
     (lacks-append 10 (decimal entry.id) (32 ∷ entry.text) (decimal_lacks entry.id fit.last)
     fit.line))
 
 pub answered_no_end : (id : ℕ) → id < 2 ^ 63 → All IsNoEnd (answered_line id)
 answered_no_end id last =
-    all_of (answered_line id)
+    all_other 10 (answered_line id)
     (lacks-append 10 (codes "answered ") (decimal id) refl (decimal_lacks id last))
 
 -- ---- what says an item is its line
@@ -190,11 +183,9 @@ said_after_spelled word rest entry h = go (bytes_eq word (codes "item")) refl h
     late true e = not_answered (id_of rest) entry e
     late false e = absurd cc
 
-    go : (b : Bool) → bytes_eq word (codes "item") ≡ b
-        → cond b (item_by (cut 32 rest))
+    go : (b : Bool) → bytes_eq word (codes "item") ≡ b → cond b (item_by (cut 32 rest))
         (cond (bytes_eq word (codes "answered")) (option_map answered_of (id_of rest)) None)
-        ≡ Some (line.Item entry)
-        → IsSpelled (word ++ 32 ∷ rest) entry
+        ≡ Some (line.Item entry) → IsSpelled (word ++ 32 ∷ rest) entry
     go true same e =
         let s = item_by_spelled rest (cut 32 rest) entry (cut_spelled 32 rest) e in
         let w : word ≡ codes "item" = (bytes_eq-Decides word (codes "item")).0 same in

@@ -1,21 +1,16 @@
 -- What is in the journal stays there.
 use Rattle.std.proofs.Common.{◌≡◌, ◌∙◌, ℕ, List, [], ◌∷◌, Some, ap, sym, subst, take}
-use Rattle.std.specs.Prelude.{Contains, nat_eq}
-use Rattle.std.specs.Map.{lookup}
+use Rattle.std.specs.{Prelude.Contains, Prelude.nat_eq, Map.lookup}
 use Rattle.std.proofs.lemmas.List.Elements.{Contains-append_left, Contains-push}
 use Rattle.acceptor.specs.declared.entry.Entry.{Entry}
 use Rattle.desk_talks.specs.Dialogues.{CallsLead}
-use Rattle.outbox.specs.declared.item.QueueOutcome.TheVariants as taken
-use Rattle.outbox.specs.Histories.{Aim, Answer, Call, CallLeads, InDialogue, Kept, Look, NotKept}
-use Rattle.outbox.specs.Histories.{PromisesOf, Restart, Take, World, after_call, aimed_by}
-use Rattle.outbox.specs.Histories.{promises, promises_of, targets}
-use Rattle.outbox.specs.Laws.{StandsUnder, StaysInTheJournal}
-use Rattle.outbox.specs.Lines.{HallOf, item_line}
-use Rattle.outbox.proofs.Held.{after_a_call, sound}
+use Rattle.outbox.specs.Histories.{Call, CallLeads, Kept, PromisesOf, Take, World, after_call}
+use Rattle.outbox.specs.Histories.{aimed_by, promises, promises_of, targets}
+use Rattle.outbox.specs.{Laws.StandsUnder, Laws.StaysInTheJournal, Lines.HallOf, Lines.item_line}
+use Rattle.outbox.proofs.{Held.after_a_call, Held.sound, Spelled.ReadsBack}
 use Rattle.outbox.proofs.Lists.{all_contains, all_take, found_holds}
-use Rattle.outbox.proofs.Reading.{HasLine, IsKeyed}
-use Rattle.outbox.proofs.Sound.{IsPromised, IsSound}
-use Rattle.outbox.proofs.Spelled.{ReadsBack}
+use Rattle.outbox.proofs.{Reading.HasLine, Reading.IsKeyed, Sound.IsPromised, Sound.IsSound}
+use Rattle.outbox.specs.declared.item.QueueOutcome.TheVariants as taken
 
 -- an entry is promised
 record IsHeld (hall : HallOf) (entry : Entry) (w : World) : Type 0 where
@@ -26,18 +21,9 @@ record IsHeld (hall : HallOf) (entry : Entry) (w : World) : Type 0 where
 
 made_more : (call : Call) (p : PromisesOf) (entry : Entry) → Contains p.made entry
     → Contains (after_call call p).made entry
-made_more (Take one now taken.New) p entry c = c
-made_more (Take one now taken.Same) p entry c = c
-made_more (Take one now taken.Other) p entry c = c
-made_more (Take one now taken.Unfit) p entry c = c
-made_more (Take one now taken.Full) p entry c = c
 made_more Kept p entry c = Contains-append_left p.made p.due entry c
-made_more NotKept p entry c = c
-made_more (Answer log id told) p entry c = c
-made_more (Look log) p entry c = c
-made_more (Aim desk) p entry c = c
-made_more (InDialogue call) p entry c = c
-made_more (Restart more desk now) p entry c = c
+made_more (Take one now taken.New) p entry c = c
+made_more _ p entry c = c
 
 held_on : (hall : HallOf) (entry : Entry) (calls : List Call) (old new : World)
     → IsHeld hall entry old → CallsLead (CallLeads hall) old calls new → IsHeld hall entry new
@@ -114,6 +100,5 @@ stays_in_the_journal hall h calls old new id entry leads lead stands =
     let s = sound hall h old leads in
     let one = keyed hall (targets h) (promises h) old id entry s stands in
     let under : id ≡ entry.id = one.is ∙ ap (λ (e : Entry). e.id) stands.is in
-    stands_by hall id entry new
-    (held_on hall entry calls old new
+    stands_by hall id entry new (held_on hall entry calls old new
     (held_by hall (targets h) (promises h) old id entry s stands under) lead) under

@@ -1,23 +1,20 @@
 -- What is reported of an entry is what the log says.
-use Rattle.std.proofs.Common.{◌≡◌, ◌≢◌, ℕ, ◌<◌, ◌==◌, Bool, true, false, List, [], ◌++◌}
-use Rattle.std.proofs.Common.{Option, Some, None, length, slice_get, refl, sym, ap, ◌∙◌, arith}
+use Rattle.std.proofs.Common.{◌≡◌, ◌≢◌, ℕ, ◌<◌, ◌==◌, Bool, true, false, List, [], ◌++◌, Option}
+use Rattle.std.proofs.Common.{Some, None, length, slice_get, refl, sym, ap, ◌∙◌, arith}
 use Rattle.std.proofs.Common.{if◌then◌else◌, subst, take}
-use Rattle.std.specs.Prelude.{bytes_eq}
-use Rattle.std.specs.Option.{option_map}
-use Rattle.std.proofs.lemmas.Bool.Decides.{nat_tests}
-use Rattle.std.proofs.lemmas.Slice.Eq.{bytes_eq-Decides}
+use Rattle.std.specs.{Prelude.bytes_eq, Option.option_map}
+use Rattle.std.proofs.lemmas.{Bool.Decides.nat_tests, Slice.Eq.bytes_eq-Decides}
 use Rattle.acceptor.specs.declared.entry.Entry.{Entry}
 use Rattle.learner.specs.Logs.{position_of}
-use Rattle.texts.specs.declared.answer.Answer.{Answer}
-use Rattle.texts.specs.declared.answer.Answer.TheVariants as answer
-use Rattle.texts.specs.declared.answer.Code.{Code}
-use Rattle.texts.specs.declared.answer.Code.TheVariants as code
+use Rattle.texts.specs.declared.answer.{Answer.Answer, Code.Code}
 use Rattle.answers.specs.Transcripts.{answer_after, answer_at}
-use Rattle.outbox.specs.declared.state.ItemState.TheVariants as state
 use Rattle.outbox.specs.Laws.{IsSo, NeverByGuess, StandsAs, ToldAtOnce, ToldForGood}
 use Rattle.outbox.specs.States.{answered_as, refused_as, state_at, state_by, state_of}
 use Rattle.answers.proofs.Fronts.{found_front, get_front}
 use Rattle.outbox.proofs.Fronts.{answer_front, found_at}
+use Rattle.texts.specs.declared.answer.Answer.TheVariants as answer
+use Rattle.texts.specs.declared.answer.Code.TheVariants as code
+use Rattle.outbox.specs.declared.state.ItemState.TheVariants as state
 
 same_entry : (a b : Entry) → a.id ≡ b.id → a.text ≡ b.text → a ≡ b
 same_entry a b i t = λ k. record { id = i k; text = t k }
@@ -98,8 +95,7 @@ state_is : (held log : List Entry) (entry : Entry) (p : ℕ) (t : IsThere held l
     ≡ (if bytes_eq t.there.text entry.text then answered_as p (Some t.told) else state.OtherText p)
 state_is held log entry p t =
     ap (state_by held entry p) t.held_there
-    ∙ ap
-    (λ o. if bytes_eq t.there.text entry.text then answered_as p o else state.OtherText p)
+    ∙ ap (λ o. if bytes_eq t.there.text entry.text then answered_as p o else state.OtherText p)
     t.held_told
 
 so_at : (held rest : List Entry) (entry : Entry) (o : Option ℕ) → position_of held entry.id ≡ o
@@ -133,23 +129,20 @@ at_once : (held : List Entry) (entry : Entry) (o : Option ℕ) → position_of h
 at_once held entry None h w = refl
 at_once held entry (Some p) h w =
     let t = is_there held [] entry p h in
-    absurd
-    (ends p t.told (bytes_eq t.there.text entry.text)
+    absurd (ends p t.told (bytes_eq t.there.text entry.text)
     (sym (state_is held (held ++ []) entry p t) ∙ w))
 
 pub told_at_once : ToldAtOnce
 told_at_once held entry w = at_once held entry (position_of held entry.id) refl w
 
 for_good : (held rest : List Entry) (entry : Entry) (o : Option ℕ) → position_of held entry.id ≡ o
-    → state_at held entry o ≢ state.Waits
-    → state_of (held ++ rest) entry ≡ state_at held entry o
+    → state_at held entry o ≢ state.Waits → state_of (held ++ rest) entry ≡ state_at held entry o
 for_good held rest entry None h w = absurd (w refl)
 for_good held rest entry (Some p) h w =
     let t = is_there held rest entry p h in
     ap (state_at (held ++ rest) entry) (found_front (λ e. e.id == entry.id) 0 p held rest h)
     ∙ ap (state_by (held ++ rest) entry p) t.log_there
-    ∙ ap
-    (λ o. if bytes_eq t.there.text entry.text then answered_as p o else state.OtherText p)
+    ∙ ap (λ o. if bytes_eq t.there.text entry.text then answered_as p o else state.OtherText p)
     t.log_told
     ∙ sym (state_is held (held ++ rest) entry p t)
 

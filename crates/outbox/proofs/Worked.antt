@@ -1,12 +1,8 @@
 -- The worked journal and states, computed.
-use Rattle.std.proofs.Common.{None, refl, arith}
-use Rattle.std.specs.Fmt.{digits}
+use Rattle.std.{proofs.Common.None, proofs.Common.refl, proofs.Common.arith, specs.Fmt.digits}
 use Rattle.commands.specs.History.{after_in, entry_refusal_in}
-use Rattle.texts.specs.Fields.{cut, number_between}
-use Rattle.texts.specs.Names.{is_clear_name}
-use Rattle.texts.specs.Reading.{command_of}
-use Rattle.texts.specs.Table.{rows}
-use Rattle.texts.specs.declared.command.Command.TheVariants.{SetEdition}
+use Rattle.texts.specs.{Fields.cut, Names.is_clear_name, Reading.command_of, Table.rows}
+use Rattle.texts.specs.{Fields.number_between, declared.command.Command.TheVariants.SetEdition}
 use Rattle.outbox.specs.Worked.{WorkedJournal, WorkedStates}
 
 pub worked_journal : WorkedJournal

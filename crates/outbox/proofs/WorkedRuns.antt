@@ -2,17 +2,15 @@
 use Rattle.std.proofs.Common.{[], refl, arith, Some, None}
 use Rattle.std.specs.Fmt.{digits}
 use Rattle.texts.specs.Fields.{cut, number_between}
-use Rattle.wire.specs.Entries.{IsEntry}
-use Rattle.wire.specs.Stream.{holding}
+use Rattle.wire.specs.{Entries.IsEntry, Stream.holding}
 use Rattle.desk_talks.specs.KeptConnections.{line, opening, new_line}
 use Rattle.desk_talks.specs.Exchanges.{talk}
-use Rattle.desk_talks.specs.declared.kept_connection.ConnectionStage.TheVariants as stage
 use Rattle.outbox.specs.Histories.{IsStarted, Leads, world}
-use Rattle.outbox.specs.Items.{no_items, queued}
+use Rattle.outbox.specs.{Items.no_items, Items.queued, Worked.seven}
 use Rattle.outbox.specs.Outboxes.{new_outbox, with_line, with_list}
-use Rattle.outbox.specs.Worked.{seven}
 use Rattle.outbox.specs.WorkedRuns.{WorkedRun, ending, file_of_five, five, five_since, new_file}
 use Rattle.outbox.specs.WorkedRuns.{six, started_again, submitted, submitting}
+use Rattle.desk_talks.specs.declared.kept_connection.ConnectionStage.TheVariants as stage
 
 started : IsStarted seven 1 0 new_file (world (new_outbox 7 1 no_items) new_file)
 unfolding cut digits number_between
@@ -34,10 +32,10 @@ unfolding digits
 submits =
     let new = new_outbox 7 1 no_items in
     let kept = with_list new (five_since 3) in
-    let opened = line 250 (stage.Opened 4) (Some (talk (holding []) None [])) 0 in (
+    let opened = line (stage.Opened 4) (Some (talk (holding []) None [])) 0 in (
       world (with_line kept opened) file_of_five,
       (
-        world (with_line kept (opening (new_line 250) 4)) file_of_five,
+        world (with_line kept (opening new_line 4)) file_of_five,
         (
           world kept file_of_five,
           (
@@ -49,7 +47,7 @@ submits =
             ),
             refl,
           ),
-          (with_line kept (opening (new_line 250) 4), (refl, refl), refl),
+          (with_line kept (opening new_line 4), (refl, refl), refl),
         ),
         (with_line kept opened, (opened, refl, refl), refl),
       ),

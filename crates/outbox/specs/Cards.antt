@@ -6,12 +6,9 @@ use Rattle.commands.specs.Accepted.{are_values, refusal, round_by}
 use Rattle.commands.specs.History.{history}
 use Rattle.learner.specs.Laws.{IsPrefix}
 use Rattle.rounds.specs.Tables.{Entrant, Table, entrant}
-use Rattle.texts.specs.Reading.{command_of}
-use Rattle.texts.specs.declared.command.CardEntry.{CardEntry}
-use Rattle.texts.specs.declared.command.Command.{Command}
+use Rattle.texts.specs.{Reading.command_of, declared.command.RemarkedCommand.RemarkedCommand}
+use Rattle.texts.specs.declared.command.{CardEntry.CardEntry, Command.Command, Settings.Settings}
 use Rattle.texts.specs.declared.command.Command.TheVariants.{Card, Fix}
-use Rattle.texts.specs.declared.command.RemarkedCommand.{RemarkedCommand}
-use Rattle.texts.specs.declared.command.Settings.{Settings}
 use Rattle.outbox.specs.States.{state_of}
 use Rattle.outbox.specs.declared.state.ItemState.TheVariants as state
 

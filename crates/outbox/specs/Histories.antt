@@ -5,13 +5,11 @@ use Rattle.acceptor.specs.declared.entry.Entry.{Entry}
 use Rattle.learner.specs.Laws.{IsPrefix}
 use Rattle.wire.specs.Entries.{IsEntry}
 use Rattle.desk_talks.specs.Dialogues.{Call as DialogueCall}
-use Rattle.outbox.specs.declared.item.QueueOutcome.{QueueOutcome}
-use Rattle.outbox.specs.declared.item.QueueOutcome.TheVariants as taken
+use Rattle.outbox.specs.{declared.item.QueueOutcome.QueueOutcome, Journals.read_back}
 use Rattle.outbox.specs.Items.{ItemsOf, Takes, all_kept, taken_back}
-use Rattle.outbox.specs.Journals.{read_back}
-use Rattle.outbox.specs.Lines.{HallOf, cut_line, whole_lines}
+use Rattle.outbox.specs.{Lines.HallOf, Lines.cut_line, Lines.whole_lines, Outboxes.with_list}
 use Rattle.outbox.specs.Outboxes.{Answers, DialogueLeads, OutboxOf, aimed, looked, new_outbox}
-use Rattle.outbox.specs.Outboxes.{with_list}
+use Rattle.outbox.specs.declared.item.QueueOutcome.TheVariants as taken
 
 -- an outbox, and the bytes that its journal is known to have: whole lines, which a crash leaves
 pub record World : Type 0 where

@@ -1,15 +1,12 @@
 -- The items of an outbox: each is one entry, and is on one line of the journal (the project's own).
-use Rattle.std.specs.Prelude.{◌≡◌, ◌==◌, ℕ, ◌≤◌, Bool, true, false, not, nat_eq, nat_le}
-use Rattle.std.specs.Prelude.{if◌then◌else◌, bytes_eq, take, length, List, [], ◌∷◌, ◌++◌, Option}
-use Rattle.std.specs.Prelude.{None, Some}
-use Rattle.std.specs.List.{AllByRecursion, list_all, list_any}
-use Rattle.std.specs.Map.{lookup}
+use Rattle.std.specs.Prelude.{◌≡◌, ℕ, ◌≤◌, Bool, true, not, take, List, [], ◌∷◌, ◌++◌, None, Some}
+use Rattle.std.specs.Prelude.{◌==◌, false, nat_eq, nat_le, if◌then◌else◌, bytes_eq, length, Option}
+use Rattle.std.specs.{List.AllByRecursion, List.list_all, List.list_any, Map.lookup}
 use Rattle.indexmap.specs.IndexSet.{insert_key}
 use Rattle.acceptor.specs.declared.entry.Entry.{Entry}
-use Rattle.outbox.specs.declared.item.Item.{Item}
-use Rattle.outbox.specs.declared.item.QueueOutcome.{QueueOutcome}
-use Rattle.outbox.specs.declared.item.QueueOutcome.TheVariants as taken
+use Rattle.outbox.specs.declared.item.{Item.Item, QueueOutcome.QueueOutcome}
 use Rattle.outbox.specs.Lines.{answered_line, item_line, with_end}
+use Rattle.outbox.specs.declared.item.QueueOutcome.TheVariants as taken
 
 -- the items by their ids, in the order in which they were taken; how many of the first of them are
 -- in the journal; the lines that are to be put there; and the ids of those that a scoretaker has

@@ -1,30 +1,23 @@
 -- What holds of an outbox, whatever calls are made, whatever comes from desks, and whatever the log
 -- is (the project's own).
-use Rattle.std.specs.Prelude.{ℕ, ◌≡◌, ◌≢◌, ◌⊎◌, ◌^◌, ◌<◌, List, [], ◌∷◌, drop, true, Some}
-use Rattle.std.specs.Prelude.{None, Ok}
+use Rattle.std.specs.Prelude.{ℕ, ◌≡◌, ◌≢◌, ◌⊎◌, ◌^◌, ◌<◌, List, [], ◌∷◌, drop, true, Some, None, Ok}
 use Rattle.std.specs.Prelude.{Contains, not, ◌==◌, ◌||◌, ◌++◌, is_some, slice_get, take}
 use Rattle.std.specs.List.{AllByRecursion, list_all}
 use Rattle.acceptor.specs.declared.entry.Entry.{Entry}
-use Rattle.learner.specs.Laws.{IsPrefix}
-use Rattle.learner.specs.Logs.{position_of}
+use Rattle.learner.specs.{Laws.IsPrefix, Logs.position_of}
 use Rattle.texts.specs.declared.answer.Answer.{Answer}
-use Rattle.texts.specs.declared.answer.Answer.TheVariants as answer
-use Rattle.texts.specs.declared.answer.Code.TheVariants as code
 use Rattle.answers.specs.Transcripts.{answer_at}
-use Rattle.wire.specs.Entries.{IsEntry}
-use Rattle.wire.specs.Spelling.{spelling}
-use Rattle.desk_talks.specs.Dialogues.{CallsLead}
-use Rattle.desk_talks.specs.KeptConnections.{unsent_by}
-use Rattle.outbox.specs.declared.item.Item.{Item}
-use Rattle.outbox.specs.declared.state.ItemState.{ItemState}
-use Rattle.outbox.specs.declared.state.ItemState.TheVariants as state
+use Rattle.wire.specs.{Entries.IsEntry, Spelling.spelling}
+use Rattle.desk_talks.specs.{Dialogues.CallsLead, KeptConnections.unsent_by}
+use Rattle.outbox.specs.declared.{item.Item.Item, state.ItemState.ItemState}
 use Rattle.outbox.specs.Histories.{Call, CallLeads, History, Leads, LooksAt, World, promises}
-use Rattle.outbox.specs.Histories.{targets}
+use Rattle.outbox.specs.{Histories.targets, Journals.read_back, States.state_of}
 use Rattle.outbox.specs.Items.{ItemsOf, is_answered, item_in, taken_back}
-use Rattle.outbox.specs.Journals.{read_back}
 use Rattle.outbox.specs.Lines.{HallOf, hall_line, item_line, whole_lines}
 use Rattle.outbox.specs.Outboxes.{is_decided, submit_request}
-use Rattle.outbox.specs.States.{state_of}
+use Rattle.texts.specs.declared.answer.Answer.TheVariants as answer
+use Rattle.texts.specs.declared.answer.Code.TheVariants as code
+use Rattle.outbox.specs.declared.state.ItemState.TheVariants as state
 
 -- ---- what is reported of an item
 
@@ -109,8 +102,7 @@ Fixed = (hall : HallOf) (h : History) (w : World) → Leads hall h w → IsFixed
 abbrev pub PassesOverByTheLog : Type 0
 PassesOverByTheLog =
     (hall : HallOf) (h : History) (w : World) (log : List Entry) (pair : ℕ × Item)
-    → Leads hall h w → LooksAt log h
-    → is_decided w.outbox.list w.outbox.decided pair
+    → Leads hall h w → LooksAt log h → is_decided w.outbox.list w.outbox.decided pair
     ≡ (is_some (position_of (take w.outbox.seen log) pair.0) || is_answered w.outbox.list pair.0)
 
 -- an address has no space in it

@@ -2,8 +2,7 @@
 -- item, or says that a scoretaker has answered one.
 use Rattle.std.specs.Prelude.{◌≡◌, ◌==◌, ℕ, ◌-◌, ◌^◌, ◌<◌, if◌then◌else◌, List, [], ◌∷◌, ◌++◌}
 use Rattle.std.specs.Prelude.{bytes_eq, codes, decimal, length, nat_le, Option, None, Some}
-use Rattle.std.specs.List.{flat_map, slice_split}
-use Rattle.std.specs.Option.{option_map}
+use Rattle.std.specs.{List.flat_map, List.slice_split, Option.option_map}
 use Rattle.acceptor.specs.declared.entry.Entry.{Entry}
 use Rattle.texts.specs.Fields.{cut, number_between}
 use Rattle.outbox.specs.declared.journal_lines.JournalLine.{JournalLine}

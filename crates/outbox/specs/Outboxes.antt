@@ -1,36 +1,30 @@
 -- An outbox: the items, and the one that is on its way to a desk (the project's own).
-use Rattle.std.specs.Prelude.{ℕ, ◌≡◌, ◌+◌, ◌&&◌, ◌==◌, ◌||◌, List, [], ◌∷◌, length, drop}
-use Rattle.std.specs.Prelude.{take, max, slice_get, not, nat_eq, nat_lt, if◌then◌else◌}
-use Rattle.std.specs.Prelude.{Option, None, Some, Bool, true, false}
-use Rattle.std.specs.List.{list_any, prefix_len}
-use Rattle.std.specs.Option.{option_map}
+use Rattle.std.specs.Prelude.{ℕ, ◌≡◌, ◌+◌, ◌&&◌, ◌==◌, ◌||◌, List, [], ◌∷◌, length, drop, take, max}
+use Rattle.std.specs.Prelude.{slice_get, not, nat_eq, nat_lt, if◌then◌else◌, Option, None, Some}
+use Rattle.std.specs.Prelude.{Bool, true, false}
+use Rattle.std.specs.{List.list_any, List.prefix_len, Option.option_map}
 use Rattle.indexmap.specs.IndexSet.{insert_key}
 use Rattle.acceptor.specs.declared.entry.Entry.{Entry}
-use Rattle.wire.specs.declared.frame.Frame.{Frame}
-use Rattle.wire.specs.declared.frame.FrameBody.{FrameBody}
-use Rattle.wire.specs.declared.frame.FrameBody.TheVariants as what
-use Rattle.wire.specs.declared.values.ClientRefusal.{ClientRefusal}
-use Rattle.wire.specs.declared.values.Version.TheVariants.{One}
+use Rattle.wire.specs.declared.frame.{Frame.Frame, FrameBody.FrameBody}
+use Rattle.wire.specs.declared.values.{ClientRefusal.ClientRefusal, Version.TheVariants.One}
 use Rattle.desk_talks.specs.Dialogues.{Act, Call, Hear, Lost, Opened, Sent}
 use Rattle.desk_talks.specs.KeptConnections.{AsksOver, HearsOver, KeptConnectionOf, closed, due_of}
-use Rattle.desk_talks.specs.KeptConnections.{hurried, new_line}
-use Rattle.desk_talks.specs.KeptConnections.{opening, sent_by as line_sent_by}
-use Rattle.desk_talks.specs.KeptConnections.{wait_of as line_wait_of}
-use Rattle.desk_talks.specs.KeptConnections.{Opens as OpensLine}
+use Rattle.desk_talks.specs.KeptConnections.{hurried, new_line, opening, sent_by as line_sent_by}
+use Rattle.desk_talks.specs.KeptConnections.{wait_of as line_wait_of, Opens as OpensLine}
 use Rattle.desk_talks.specs.declared.dialogue.ReceiveOutcome.{ReceiveOutcome}
-use Rattle.desk_talks.specs.declared.dialogue.ReceiveOutcome.TheVariants as came
 use Rattle.desk_talks.specs.declared.dialogue.DialogueAction.{DialogueAction}
-use Rattle.desk_talks.specs.declared.dialogue.DialogueAction.TheVariants as wish
 use Rattle.desk_talks.specs.declared.kept_connection.DueAction.{DueAction}
-use Rattle.desk_talks.specs.declared.kept_connection.DueAction.TheVariants as due
 use Rattle.desk_talks.specs.declared.kept_connection.ConnectionStage.{ConnectionStage}
-use Rattle.desk_talks.specs.declared.kept_connection.ConnectionStage.TheVariants as stage
 use Rattle.desk_talks.specs.declared.exchange.AnswerOutcome.{AnswerOutcome}
-use Rattle.desk_talks.specs.declared.exchange.AnswerOutcome.TheVariants as heard
-use Rattle.outbox.specs.declared.item.Item.{Item}
+use Rattle.outbox.specs.declared.{item.Item.Item, state.ItemState.ItemState}
 use Rattle.outbox.specs.Items.{ItemsOf, is_answered, item_in, with_answer}
 use Rattle.outbox.specs.States.{state_of}
-use Rattle.outbox.specs.declared.state.ItemState.{ItemState}
+use Rattle.wire.specs.declared.frame.FrameBody.TheVariants as what
+use Rattle.desk_talks.specs.declared.dialogue.ReceiveOutcome.TheVariants as came
+use Rattle.desk_talks.specs.declared.dialogue.DialogueAction.TheVariants as wish
+use Rattle.desk_talks.specs.declared.kept_connection.DueAction.TheVariants as due
+use Rattle.desk_talks.specs.declared.kept_connection.ConnectionStage.TheVariants as stage
+use Rattle.desk_talks.specs.declared.exchange.AnswerOutcome.TheVariants as heard
 use Rattle.outbox.specs.declared.state.ItemState.TheVariants as state
 
 pub record OutboxOf : Type 0 where
@@ -48,8 +42,7 @@ pub record OutboxOf : Type 0 where
   pub refusal : Option ClientRefusal
 
 abbrev pub outbox : ItemsOf → (seen : ℕ) → (decided : List ℕ) → (hall desk aim : ℕ)
-    → KeptConnectionOf
-    → (next : ℕ) → Option ClientRefusal → OutboxOf
+    → KeptConnectionOf → (next : ℕ) → Option ClientRefusal → OutboxOf
 outbox list seen decided hall desk aim line next refusal = record {
   list = list;
   seen = seen;
@@ -65,19 +58,17 @@ outbox list seen decided hall desk aim line next refusal = record {
 -- connections are 250 milliseconds apart
 abbrev pub new_outbox : ℕ → ℕ → ItemsOf → OutboxOf
 new_outbox hall desk list =
-    outbox list 0 [] hall desk desk (new_line 250) 0 None
+    outbox list 0 [] hall desk desk new_line 0 None
 
 -- the items, whichever of them were taken
 abbrev pub held : OutboxOf → ItemsOf
 held o = o.list
 
 abbrev pub with_list : OutboxOf → ItemsOf → OutboxOf
-with_list o list =
-    outbox list o.seen o.decided o.hall o.desk o.aim o.line o.next o.refusal
+with_list o list = record o { list = list }
 
 abbrev pub with_line : OutboxOf → KeptConnectionOf → OutboxOf
-with_line o line =
-    outbox o.list o.seen o.decided o.hall o.desk o.aim line o.next o.refusal
+with_line o line = record o { line = line }
 
 -- the connection is lost
 abbrev pub lost : OutboxOf → OutboxOf
@@ -93,14 +84,14 @@ noted_all decided (entry ∷ entries) = noted_all (insert_key nat_eq decided ent
 -- the entry at a position was looked at
 abbrev pub looked_at : OutboxOf → Entry → ℕ → OutboxOf
 looked_at o entry position =
-    outbox o.list (position + 1) (insert_key nat_eq o.decided entry.id) o.hall o.desk o.aim o.line
-    o.next o.refusal
+    record o { seen = position + 1; decided = insert_key nat_eq o.decided entry.id }
 
 -- the entries of the log that were not looked through yet were
 abbrev pub looked : OutboxOf → List Entry → OutboxOf
-looked o log =
-    outbox o.list (max o.seen (length log)) (noted_all o.decided (drop o.seen log)) o.hall o.desk
-    o.aim o.line o.next o.refusal
+looked o log = record o {
+  seen = max o.seen (length log);
+  decided = noted_all o.decided (drop o.seen log);
+}
 
 -- ---- what a scoretaker answers
 
@@ -127,8 +118,7 @@ Answers log id told old new = (told ≡ may_answer log old.list id) × AnswersIf
 -- ---- what is to be submitted, and where
 
 abbrev pub aimed : OutboxOf → ℕ → OutboxOf
-aimed o desk =
-    outbox o.list o.seen o.decided o.hall o.desk desk o.line o.next o.refusal
+aimed o desk = record o { aim = desk }
 
 -- an item need not be submitted
 abbrev pub is_decided : ItemsOf → List ℕ → ℕ × Item → Bool
@@ -154,8 +144,7 @@ oldest o = prefix_len (is_decided o.list o.decided) (take o.list.kept o.list.ite
 
 abbrev pub moved : OutboxOf → ℕ → OutboxOf
 moved o count =
-    outbox o.list o.seen o.decided o.hall o.desk o.aim o.line (o.next + count)
-    (if count == 0 then o.refusal else None)
+    record o { next = o.next + count; refusal = if count == 0 then o.refusal else None }
 
 -- the next item is the next one that needs to be submitted
 abbrev pub skipped : OutboxOf → OutboxOf
@@ -185,8 +174,7 @@ submit_request hall desk entry =
 
 -- the desk is left for the one that is aimed at, which has taken none
 abbrev pub gone_on : OutboxOf → OutboxOf
-gone_on o =
-    outbox o.list o.seen o.decided o.hall o.aim o.aim (closed o.line) 0 None
+gone_on o = record o { desk = o.aim; line = closed o.line; next = 0; refusal = None }
 
 -- the entry is that of the item at a place
 abbrev pub IsEntryAt : Option (ℕ × Item) → Entry → Type 0
@@ -258,8 +246,7 @@ took o id =
     else o.next) None
 
 abbrev pub refused_with : OutboxOf → ClientRefusal → OutboxOf
-refused_with o refusal =
-    outbox o.list o.seen o.decided o.hall o.desk o.aim o.line o.next (Some refusal)
+refused_with o refusal = record o { refusal = Some refusal }
 
 abbrev pub Fails : ReceiveOutcome → OutboxOf → OutboxOf → Type 0
 Fails c old new = (c ≡ came.NoAnswer) × (new ≡ lost old)
@@ -287,6 +274,6 @@ pub record HearsDesk (c : ReceiveOutcome) (piece : List ℕ) (old new : OutboxOf
 abbrev pub DialogueLeads : Call → OutboxOf → OutboxOf → Type 0
 DialogueLeads (Act w now) old new = Acts w now old new
 DialogueLeads (Opened result) old new = Opens result old new
-DialogueLeads Lost old new = new ≡ lost old
+DialogueLeads (Lost ended) old new = new ≡ lost old
 DialogueLeads (Sent count) old new = new ≡ sent_by old count
 DialogueLeads (Hear c now piece) old new = HearsDesk c piece old new

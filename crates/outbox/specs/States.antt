@@ -2,12 +2,11 @@
 use Rattle.std.specs.Prelude.{ℕ, if◌then◌else◌, bytes_eq, slice_get, List, Option, None, Some}
 use Rattle.acceptor.specs.declared.entry.Entry.{Entry}
 use Rattle.learner.specs.Logs.{position_of}
-use Rattle.texts.specs.declared.answer.Answer.{Answer}
-use Rattle.texts.specs.declared.answer.Answer.TheVariants as answer
-use Rattle.texts.specs.declared.answer.Code.{Code}
-use Rattle.texts.specs.declared.answer.Code.TheVariants as code
+use Rattle.texts.specs.declared.answer.{Answer.Answer, Code.Code}
 use Rattle.answers.specs.Transcripts.{answer_at}
 use Rattle.outbox.specs.declared.state.ItemState.{ItemState}
+use Rattle.texts.specs.declared.answer.Answer.TheVariants as answer
+use Rattle.texts.specs.declared.answer.Code.TheVariants as code
 use Rattle.outbox.specs.declared.state.ItemState.TheVariants as state
 
 -- an entry that was refused with a code: a card over other attempts than its scoretaker saw, or

@@ -1,17 +1,13 @@
 -- A journal, and what a log says, worked by hand.
 use Rattle.std.specs.Prelude.{◌≡◌, ℕ, List, [], ◌∷◌, ◌++◌, codes, Ok, Err}
 use Rattle.acceptor.specs.declared.entry.Entry.{Entry}
+use Rattle.texts.specs.declared.command.Command.TheVariants.{SetEdition}
+use Rattle.outbox.specs.{Items.items_of, Items.taken_at, Laws.IsName, Laws.StandsAs, Lines.HallOf}
+use Rattle.outbox.specs.{Cards.Says, Journals.read_back, Lines.with_end, States.state_of}
 use Rattle.texts.specs.declared.answer.Answer.TheVariants as answer
 use Rattle.texts.specs.declared.answer.Code.TheVariants as code
-use Rattle.texts.specs.declared.command.Command.TheVariants.{SetEdition}
 use Rattle.outbox.specs.declared.journal.JournalFault.TheVariants as fault
 use Rattle.outbox.specs.declared.state.ItemState.TheVariants as state
-use Rattle.outbox.specs.Items.{items_of, taken_at}
-use Rattle.outbox.specs.Cards.{Says}
-use Rattle.outbox.specs.Journals.{read_back}
-use Rattle.outbox.specs.Laws.{IsName, StandsAs}
-use Rattle.outbox.specs.Lines.{HallOf, with_end}
-use Rattle.outbox.specs.States.{state_of}
 
 abbrev pub entry : ℕ → List ℕ → Entry
 entry id text = record { id = id; text = text }
@@ -34,8 +30,7 @@ journal =
     ++ with_end (codes "answered 9223372036854775807") ++ codes "item 6 CLOSE 22"
 
 pub record WorkedJournal : Type 0 where
-  pub reads : read_back seven 3 journal
-      ≡ Ok (items_of
+  pub reads : read_back seven 3 journal ≡ Ok (items_of
       ((5, taken_at (entry 5 (codes "CLOSE 333 1")) 3)
       ∷ (9223372036854775807, taken_at (entry 9223372036854775807 (codes "X")) 3) ∷ [])
       2 [] (9223372036854775807 ∷ []))
@@ -48,8 +43,7 @@ pub record WorkedJournal : Type 0 where
       ≡ Err (fault.Damaged 2)
   pub again : read_back seven 3
       (with_end (codes "hall 7 10.0.0.1:7001 10.0.0.2:7001") ++ with_end (codes "item 1 X")
-      ++ with_end (codes "item 1 X"))
-      ≡ Err (fault.Damaged 3)
+      ++ with_end (codes "item 1 X")) ≡ Err (fault.Damaged 3)
   pub none : read_back seven 3
       (with_end (codes "hall 7 10.0.0.1:7001 10.0.0.2:7001") ++ with_end (codes "answered 1"))
       ≡ Err (fault.Damaged 2)

@@ -1,21 +1,16 @@
 -- A run of calls, worked by hand: what the laws ask of a history is met.
 use Rattle.std.specs.Prelude.{◌≡◌, ℕ, List, [], ◌∷◌, ◌++◌, codes, None, Some, true}
 use Rattle.acceptor.specs.declared.entry.Entry.{Entry}
-use Rattle.wire.specs.declared.frame.Frame.{Frame}
-use Rattle.wire.specs.Spelling.{spelling}
-use Rattle.wire.specs.Stream.{holding}
-use Rattle.desk_talks.specs.Dialogues.{Act, Opened}
-use Rattle.desk_talks.specs.KeptConnections.{line}
-use Rattle.desk_talks.specs.Exchanges.{talk}
-use Rattle.desk_talks.specs.declared.dialogue.DialogueAction.TheVariants as wish
-use Rattle.desk_talks.specs.declared.kept_connection.ConnectionStage.TheVariants as stage
-use Rattle.outbox.specs.declared.item.QueueOutcome.TheVariants as taken
+use Rattle.wire.specs.{declared.frame.Frame.Frame, Spelling.spelling, Stream.holding}
+use Rattle.desk_talks.specs.{Dialogues.Act, Dialogues.Opened, KeptConnections.line, Exchanges.talk}
 use Rattle.outbox.specs.Histories.{History, InDialogue, Kept, Leads, Look, LooksAt, Restart, Start}
 use Rattle.outbox.specs.Histories.{Take, Then, World, promises, world}
 use Rattle.outbox.specs.Items.{ItemsOf, items_of, taken_at}
-use Rattle.outbox.specs.Lines.{with_end}
+use Rattle.outbox.specs.{Lines.with_end, Worked.entry, Worked.seven}
 use Rattle.outbox.specs.Outboxes.{is_decided, new_outbox, outbox, submit_request}
-use Rattle.outbox.specs.Worked.{entry, seven}
+use Rattle.desk_talks.specs.declared.dialogue.DialogueAction.TheVariants as wish
+use Rattle.desk_talks.specs.declared.kept_connection.ConnectionStage.TheVariants as stage
+use Rattle.outbox.specs.declared.item.QueueOutcome.TheVariants as taken
 
 abbrev pub five : Entry
 five = entry 5 (codes "CLOSE 333 1")
@@ -41,15 +36,12 @@ question = submit_request 7 1 five
 abbrev pub submitting : History
 submitting =
     Then (Then (Then (Then (Then (Start 1 0 new_file) (Take five 3 taken.New)) Kept)
-    (InDialogue (Act (wish.Open 1) 4))) (InDialogue (Opened true)))
-    (InDialogue (Act wish.Write 5))
+    (InDialogue (Act (wish.Open 1) 4))) (InDialogue (Opened true))) (InDialogue (Act wish.Write 5))
 
 abbrev pub submitted : World
 submitted =
-    world
-    (outbox (five_since 3) 0 [] 7 1 1
-    (line 250 (stage.Asked 5) (Some (talk (holding []) (Some question) (spelling question))) 1) 0
-    None)
+    world (outbox (five_since 3) 0 [] 7 1 1
+    (line (stage.Asked 5) (Some (talk (holding []) (Some question) (spelling question))) 1) 0 None)
     file_of_five
 
 -- A second command is taken; then the program ends, when nine bytes of that command's line were
@@ -66,7 +58,7 @@ looking = Then ending (Look (five ∷ []))
 
 abbrev pub passing : World
 passing =
-    world (outbox (five_since 8) 1 (5 ∷ []) 7 2 2 (line 250 (stage.Closed None) None 0) 0 None)
+    world (outbox (five_since 8) 1 (5 ∷ []) 7 2 2 (line (stage.Closed None) None 0) 0 None)
     file_of_five
 
 pub record WorkedRun : Type 0 where

@@ -3,10 +3,9 @@
 ghost use Rattle.std.specs.Prelude.{◌≡◌, ◌+◌, ◌≤◌, IfErr, IfOk, bytes_eq, length, nat_lt};
 ghost use Rattle.std.specs.Option.{option_map};
 ghost use Rattle.outbox.specs.Journals.{FollowsIf, IsFaultOf, after_lines, fault_of_first};
-ghost use Rattle.outbox.specs.Items.{no_items};
 ghost use Rattle.outbox.specs.Journals.{is_earlier_word, read_back};
+ghost use Rattle.outbox.specs.{Items.no_items, Outboxes.new_outbox};
 ghost use Rattle.outbox.specs.Lines.{IsFirstLine, cut_line, hall_line, said, whole_lines};
-ghost use Rattle.outbox.specs.Outboxes.{new_outbox};
 ghost use Rattle.texts.specs.Fields.{cut};
 ghost use Rattle.wire.specs.Ranges.{IsDesk};
 

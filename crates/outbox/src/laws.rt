@@ -1,12 +1,10 @@
 //! What holds of an outbox, whatever is done and whatever comes.
 
 ghost use Rattle.outbox.specs.Cards.{SavedCardIsOverWhatWasSeen, SavedFixIsOverWhatWasSeen};
-ghost use Rattle.outbox.specs.Cards.{SavedIsEntered};
-ghost use Rattle.outbox.specs.Laws.{CountsOnce, Fixed, NamesOneHall, NeverByGuess};
-ghost use Rattle.outbox.specs.Laws.{NothingTakenIsLost, OfThisHallAlone, PassesOverByTheLog};
+ghost use Rattle.outbox.specs.{Cards.SavedIsEntered, Laws.NothingTakenIsLost, WorkedRuns.WorkedRun};
+ghost use Rattle.outbox.specs.Laws.{CountsOnce, Fixed, NamesOneHall, NeverByGuess, OfThisHallAlone};
+ghost use Rattle.outbox.specs.{Laws.PassesOverByTheLog, Worked.WorkedJournal, Worked.WorkedStates};
 ghost use Rattle.outbox.specs.Laws.{ReadsAfterCrash, StaysInTheJournal, ToldAtOnce, ToldForGood};
-ghost use Rattle.outbox.specs.Worked.{WorkedJournal, WorkedStates};
-ghost use Rattle.outbox.specs.WorkedRuns.{WorkedRun};
 
 use commands::every_id_is_seen;
 

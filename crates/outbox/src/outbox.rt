@@ -15,9 +15,6 @@ use std::alloc::Global;
 use std::marker::Model;
 use wire::ClientRefusal;
 
-/// The least time between two connections, and between a refusal and the next try, in milliseconds.
-const PACE: u64 = 250;
-
 /// What was entered and is under way to the log of a hall: items, each of which is one entry that
 /// never changes.
 ///
@@ -86,7 +83,7 @@ impl Outbox {
             hall,
             desk,
             aim: desk,
-            line: KeptConnection::new(alloc, PACE),
+            line: KeptConnection::new(alloc),
             next: 0,
             refusal: None,
         }

@@ -13,7 +13,8 @@ use crate::items::Items;
 use crate::outbox::Outbox;
 use acceptor::entry::Entry;
 use desk_talks::{
-    AnswerOutcome, ConnectionStage, Dialogue, DialogueAction, DueAction, ReceiveOutcome,
+    AnswerOutcome, ConnectionPhase, ConnectionStage, Dialogue, DialogueAction, DueAction,
+    ReceiveOutcome,
 };
 use indexmap::IndexSet;
 use wire::{ClientRefusal, Frame, FrameBody, Version};
@@ -217,7 +218,7 @@ impl Outbox {
                 return DialogueAction::Write;
             }
         }
-        self.lost();
+        self.lost(false);
         DialogueAction::Close
     }
 
@@ -236,7 +237,7 @@ impl Outbox {
                 ReceiveOutcome::Answer { changed: false }
             }
             _ => {
-                self.lost();
+                self.lost(false);
                 ReceiveOutcome::NoAnswer
             }
         }
@@ -256,7 +257,7 @@ impl Outbox {
 
 impl Dialogue for Outbox {
     ghost use Rattle.std.specs.Prelude.{◌≡◌};
-    ghost use Rattle.desk_talks.specs.KeptConnections.{is_opening};
+    ghost use Rattle.desk_talks.specs.KeptConnections.{phase_of};
     ghost use Rattle.outbox.specs.Items.{ItemsOf};
     ghost use Rattle.outbox.specs.Outboxes.{DialogueLeads, held};
 
@@ -267,6 +268,10 @@ impl Dialogue for Outbox {
 
     ghost leads = { DialogueLeads };
 
+    ghost phase = { λ o. phase_of o.line.stage };
+
+    ghost output = { λ o. unsent_by o.line.talking };
+
     fn act(&mut self, now: u64) -> DialogueAction {
         if self.aim != self.desk {
             self.go_on();
@@ -274,7 +279,7 @@ impl Dialogue for Outbox {
         }
         match self.line.due(now) {
             DueAction::Close | DueAction::Renew => {
-                self.lost();
+                self.lost(false);
                 DialogueAction::Close
             }
             DueAction::Open => self.open_for_next(now),
@@ -283,25 +288,21 @@ impl Dialogue for Outbox {
         }
     }
 
-    fn is_opening(&self) -> bool
-        ensures { result ≡ is_opening self.now.line.stage }
-    {
-        self.line.is_opening()
+    fn phase(&self) -> ConnectionPhase {
+        self.line.phase()
     }
 
     fn opened(&mut self) -> bool {
         self.line.opened()
     }
 
-    fn lost(&mut self)
+    fn lost(&mut self, _ended: bool)
         ensures { self.new ≡ lost self.old }
     {
         self.line.close();
     }
 
-    fn output(&self) -> &[u8]
-        ensures { result.now ≡ unsent_by self.now.line.talking }
-    {
+    fn output(&self) -> &[u8] {
         self.line.output()
     }
 

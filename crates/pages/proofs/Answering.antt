@@ -1,14 +1,11 @@
 -- The turns of browsers, one after the other, as the service answered them.
 use Rattle.std.proofs.Common.{◌≡◌, inl, inr, ℕ, List, [], ◌∷◌, ◌++◌, All, subst, refl, sym, ap, ◌∙◌}
-use Rattle.std.proofs.Common.{append_assoc, append-nil}
-use Rattle.std.proofs.lemmas.Bool.{cases_eq}
+use Rattle.std.proofs.{Common.append_assoc, Common.append-nil, lemmas.Bool.cases_eq}
 use Rattle.std.proofs.lemmas.List.Elements.{All-append, All-cons, All-nil}
 use Rattle.http.specs.declared.request.Request.{Request}
-use Rattle.http_server.specs.declared.connection.Connection.{Connection}
-use Rattle.http_server.specs.declared.response.Response.{Response}
-use Rattle.http_server.specs.Connection.{history}
+use Rattle.http_server.specs.declared.{connection.Connection.Connection, response.Response.Response}
+use Rattle.http_server.specs.{Connection.history, History.History}
 use Rattle.http_server.specs.Exchange.{Call, Calls, Chain}
-use Rattle.http_server.specs.History.{History}
 use Rattle.pages.specs.Laws.{IsAnsweredBy}
 use Rattle.pages.specs.Turns.{Answers, AreTurns, Turn, history_at}
 use Rattle.pages.proofs.Keeping.{history_at-other, history_at-own}

@@ -1,13 +1,11 @@
 -- What was asked, one after the other.
 use Rattle.std.proofs.Common.{◌≡◌, ◌+◌, refl, sym, ap, subst, ◌∙◌, ℕ, List, [], ◌∷◌, ◌++◌, Option}
 use Rattle.std.proofs.Common.{append_assoc, append-nil, length, length-append}
-use Rattle.pages.specs.Asking.{AsksSteps, StepsBy}
-use Rattle.polled.specs.Telling.{Tells}
+use Rattle.pages.specs.{Asking.AsksSteps, Asking.StepsBy, declared.table.BrowserTable.BrowserTable}
+use Rattle.polled.specs.{Telling.Tells, Requests.Asks, Requests.Request}
 use Rattle.pages.specs.Musts.{AsksRound, Ends, GoesOn, joined}
-use Rattle.polled.specs.Requests.{Asks, Request}
-use Rattle.pages.specs.declared.table.Step.TheVariants as step_is
-use Rattle.pages.specs.declared.table.BrowserTable.{BrowserTable}
 use Rattle.polled.proofs.Telling.{Tells-nil, Tells-trans}
+use Rattle.pages.specs.declared.table.Step.TheVariants as step_is
 
 module _ {C : Type 0} (requests : C → Option (List Request)) where
   pub asks_none : (c : C) (P : List Request → Type 0) → P [] → Asks requests c c P

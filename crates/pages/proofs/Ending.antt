@@ -1,16 +1,12 @@
 -- Those that are waited for too long are let go, one after the other.
 use Rattle.std.proofs.Common.{◌≡◌, ◌≢◌, ◌⊎◌, inl, inr, refl, sym, ap, subst, ◌∙◌, ℕ, List, [], ◌∷◌}
 use Rattle.std.proofs.Common.{◌++◌, append_assoc, Bool, true, false, Some, None, true≢false}
-use Rattle.std.proofs.Common.{unwrap_or}
-use Rattle.std.proofs.lemmas.Bool.{cases_eq}
+use Rattle.std.{proofs.Common.unwrap_or, proofs.lemmas.Bool.cases_eq, specs.Prelude.map}
 use Rattle.std.proofs.lemmas.List.Elements.{All-append, All-cons, All-nil}
-use Rattle.std.specs.Prelude.{map}
-use Rattle.pages.specs.Asking.{EndsSome, LetsGo}
-use Rattle.pages.specs.Kept.{Places, places_of}
-use Rattle.pages.specs.Musts.{EndsRound, IsIn, IsSame, WasLate, is_late_at}
+use Rattle.pages.specs.{Asking.EndsSome, Asking.LetsGo, Kept.Places, Kept.places_of}
+use Rattle.pages.specs.Musts.{IsIn, IsSame, WasLate, is_late_at}
 use Rattle.polled.specs.Requests.{Closing, Request}
-use Rattle.pages.specs.declared.table.Browser.{Browser}
-use Rattle.pages.specs.declared.table.BrowserTable.{BrowserTable}
+use Rattle.pages.specs.declared.table.{Browser.Browser, BrowserTable.BrowserTable}
 
 abbrev closed : List ℕ → List Request
 closed ks = map Closing ks
@@ -47,8 +43,7 @@ module _ (f g h : Places) (k : ℕ) (gone : h k ≡ None)
     | inr apart ↦ others j apart ∙ stay j c at timely
   ]
 
-  closed_more : (ks : List ℕ)
-      → ((j : ℕ) (b : Browser) → f j ≡ Some b → (g j ≡ Some b) ⊎ IsIn j ks)
+  closed_more : (ks : List ℕ) → ((j : ℕ) (b : Browser) → f j ≡ Some b → (g j ≡ Some b) ⊎ IsIn j ks)
       → (j : ℕ) (b : Browser) → f j ≡ Some b → (h j ≡ Some b) ⊎ IsIn j (ks ++ k ∷ [])
   closed_more ks closed j b at = elim (closed j b at) [
     | inl there ↦ elim (cases_eq j k) [
@@ -103,17 +98,3 @@ module _ {C : Type 0} (now : ℕ) (old mid new : BrowserTable C) where
             stay_more (places_of old) (places_of mid) (places_of new) k went.2.0 went.2.1
             (is_late_at old now) b was late h.stay;
       }
-
-  -- none is late any more
-  pub ends_all : (asked : List Request) → EndsSome now old new asked → new.now ≡ now
-      → ((k : ℕ) (b : Browser) → places_of new k ≡ Some b → is_late_at old now b ≡ false)
-      → EndsRound now old new asked
-  ends_all asked h time timely = record {
-    time = time;
-    gone = h.gone;
-    all = h.all;
-    late = h.late;
-    closed = h.closed;
-    left = λ k b at. (h.fewer k b at, timely k b at);
-    stay = h.stay;
-  }

@@ -1,20 +1,14 @@
 -- The browsers that are looked for, one place of the table after the other.
-use Rattle.std.proofs.Common.{◌≡◌, ◌⊎◌, ◌≤◌, ◌<◌, ◌+◌, inl, inr, refl, sym, ap, subst, ◌∙◌, ℕ}
-use Rattle.std.proofs.Common.{Bool, true, false, Option, Some, None, arith, nat_eq, slice_get}
-use Rattle.std.proofs.Common.{unwrap_or}
+use Rattle.std.proofs.Common.{◌≡◌, ◌⊎◌, ◌≤◌, ◌<◌, ◌+◌, inl, inr, refl, sym, ap, subst, ◌∙◌, ℕ, Bool}
+use Rattle.std.proofs.Common.{true, false, Option, Some, None, arith, nat_eq, slice_get, unwrap_or}
 use Rattle.std.proofs.Common.{ltb, ◌&&◌, ◌||◌, ◌==◌, true≢false, if◌then◌else◌}
-use Rattle.std.proofs.lemmas.Bool.{cases_eq, eqb-true, eq-eqb, ltb-true, or_cases}
-use Rattle.std.proofs.lemmas.Bool.{lt-ltb}
-use Rattle.std.proofs.lemmas.Map.Entries.{place_from_lookup}
-use Rattle.std.proofs.lemmas.Option.{slice_get_within}
+use Rattle.std.proofs.lemmas.Bool.{cases_eq, eqb-true, eq-eqb, ltb-true, or_cases, lt-ltb}
+use Rattle.std.proofs.lemmas.{Map.Entries.place_from_lookup, Option.slice_get_within}
 use Rattle.indexmap.specs.IndexMap.{index_map_len}
-use Rattle.pages.specs.Kept.{places_of}
-use Rattle.pages.specs.Musts.{IsLongest, is_late_at}
+use Rattle.pages.specs.{Kept.places_of, Musts.IsLongest, Musts.is_late_at}
 use Rattle.pages.specs.Waiting.{is_longer, longer}
-use Rattle.pages.specs.declared.table.Browser.{Browser}
-use Rattle.pages.specs.declared.table.BrowserTable.{BrowserTable}
-use Rattle.pages.specs.declared.waiting.Longest.{Longest}
-use Rattle.pages.specs.declared.waiting.Waiting.{Waiting}
+use Rattle.pages.specs.declared.table.{Browser.Browser, BrowserTable.BrowserTable}
+use Rattle.pages.specs.declared.waiting.{Longest.Longest, Waiting.Waiting}
 
 abbrev pub Entry : Type 0
 Entry = ℕ × Browser
@@ -28,9 +22,6 @@ EachBelow t place P =
     (i : ℕ) (e : Entry) → i < place → slice_get t.browsers.entries i ≡ Some e → P e
 
 module _ {C : Type 0} (t : BrowserTable C) where
-  pub below_none : (P : Entry → Type 0) → EachBelow t 0 P
-  below_none P i e few at = absurd (omega (arith, few))
-
   pub below_more : (place : ℕ) (one : Entry) (P : Entry → Type 0) → EachBelow t place P
       → slice_get t.browsers.entries place ≡ Some one → P one → EachBelow t (place + 1) P
   below_more place one P below found p i e few at = elim (cases_eq i place) [
@@ -103,16 +94,13 @@ before_then a x b y c z (inr h) (inr k) =
 still_not : (x since other n : ℕ) (w v : Waiting) → is_longer x since other w ≡ false
     → is_longer n since other v ≡ true → is_longer x v.since n w ≡ false
 still_not x since other n w v less more =
-    is_not (is_longer x v.since n w)
-    (λ is. true≢false
-    (sym (before_to x since other w
+    is_not (is_longer x v.since n w) (λ is. true≢false (sym (before_to x since other w
     (before_then w.since x since other v.since n (before_from x v.since n w is)
     (before_from n since other v more))) ∙ less))
 
 not_itself : (n : ℕ) (v : Waiting) → is_longer n v.since n v ≡ false
 not_itself n v =
-    is_not (is_longer n v.since n v)
-    (λ is. elim (before_from n v.since n v is) [
+    is_not (is_longer n v.since n v) (λ is. elim (before_from n v.since n v is) [
       | inl h ↦ omega (arith, h)
       | inr h ↦ omega (arith, h.1)
     ])
@@ -123,8 +111,7 @@ module _ {C : Type 0} (t : BrowserTable C) where
     pub browser : Browser
     pub at : places_of t one.number ≡ Some browser
     pub since : one.since ≡ browser.waiting.since
-    pub below : EachBelow t place
-        (λ e. is_longer e.0 one.since one.number e.1.waiting ≡ false)
+    pub below : EachBelow t place (λ e. is_longer e.0 one.since one.number e.1.waiting ≡ false)
 
   abbrev pub LongestBelow : ℕ → Option Longest → Type 0
   LongestBelow place None = place ≡ 0
@@ -146,8 +133,7 @@ module _ {C : Type 0} (t : BrowserTable C) where
   next_by : (place n : ℕ) (b : Browser) (one : Longest) (is_it : Bool)
       → is_longer n one.since one.number b.waiting ≡ is_it
       → slice_get t.browsers.entries place ≡ Some (n, b) → places_of t n ≡ Some b
-      → IsLongestBelow place one
-      → IsLongestBelow (place + 1)
+      → IsLongestBelow place one → IsLongestBelow (place + 1)
       (if is_it then record { number = n; since = b.waiting.since } else one)
   next_by place n b one true longer_one at is h =
       next_found place n b at is
@@ -167,8 +153,7 @@ module _ {C : Type 0} (t : BrowserTable C) where
       → slice_get t.browsers.entries place ≡ Some (n, b) → places_of t n ≡ Some b
       → LongestBelow place found → LongestBelow (place + 1) (Some (longer n found b.waiting))
   longest_next place n b None at is h =
-      next_found place n b at is
-      (λ i e few found. absurd (omega (arith, few, h)))
+      next_found place n b at is (λ i e few found. absurd (omega (arith, few, h)))
   longest_next place n b (Some one) at is h =
       next_by place n b one (is_longer n one.since one.number b.waiting) refl at is h
 

@@ -1,9 +1,8 @@
 -- Bytes that a connection hears, one piece after the other.
 use Rattle.std.proofs.Common.{◌≡◌, ℕ, List, [], ◌∷◌, ◌++◌, Bool, true, false, refl, sym, ap, ◌∙◌}
 use Rattle.std.proofs.Common.{append_assoc, append-nil, true≢false}
-use Rattle.http_server.specs.declared.connection.Connection.{Connection}
-use Rattle.http_server.specs.Connection.{config_of, history}
-use Rattle.http_server.specs.History.{History, after_read}
+use Rattle.http_server.specs.{declared.connection.Connection.Connection, History.History}
+use Rattle.http_server.specs.{Connection.config_of, Connection.history, History.after_read}
 use Rattle.pages.specs.Turns.{Hears}
 
 -- of these bytes a front part was heard, and the rest is still to be heard
@@ -14,16 +13,6 @@ pub record Heard (bytes unheard : List ℕ) (old new : Connection) : Type 0 wher
   pub sent : (history new).sent ≡ (history old).sent
   pub calls : (history new).calls ≡ (history old).calls
   pub config : config_of new ≡ config_of old
-
-pub Heard-none : (bytes : List ℕ) (a : Connection) → Heard bytes bytes a a
-Heard-none bytes a = record {
-  heard = [];
-  split = refl;
-  received = sym (append-nil _);
-  sent = refl;
-  calls = refl;
-  config = refl;
-}
 
 pub Heard-more : (bytes u v : List ℕ) (a b c : Connection) (more : List ℕ) → Heard bytes u a b
     → u ≡ more ++ v → history c ≡ after_read (history b) more → config_of c ≡ config_of b
@@ -49,13 +38,6 @@ Hears-part bytes u a b x = record {
   sent = x.sent;
   calls = x.calls;
 }
-
-pub Hears-whole : (bytes u : List ℕ) (a b : Connection) → Heard bytes u a b → u ≡ []
-    → Hears true bytes (history a) (history b)
-unfolding Hears-part
-Hears-whole bytes u a b x none =
-    let part = Hears-part bytes u a b x in
-    record { lost = u; heard = part.heard; none_lost = λ _. none; sent = x.sent; calls = x.calls }
 
 nil_front : (xs ys : List ℕ) → [] ≡ xs ++ ys → xs ≡ []
 nil_front [] ys e = refl

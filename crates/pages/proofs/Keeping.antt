@@ -3,15 +3,12 @@ use Rattle.std.proofs.Common.{◌≡◌, ◌≢◌, ◌<◌, ◌+◌, inl, inr, 
 use Rattle.std.proofs.Common.{None, Bool, true, if◌then◌else◌, ◌==◌, subst, refl, sym, ap, ◌∙◌}
 use Rattle.std.proofs.Common.{append-nil, arith}
 use Rattle.std.proofs.lemmas.Bool.{cases_eq, ne_eqb, eq-eqb}
-use Rattle.http_server.specs.declared.connection.Connection.{Connection}
-use Rattle.http_server.specs.declared.state.Config.{Config}
+use Rattle.http_server.specs.declared.{connection.Connection.Connection, state.Config.Config}
 use Rattle.http_server.specs.Connection.{config_of, history}
 use Rattle.http_server.specs.History.{History, IsServed, new_history}
 use Rattle.http_server.proofs.Theorems.{always_served}
-use Rattle.pages.specs.declared.table.Browser.{Browser}
-use Rattle.polled.specs.Telling.{Tells}
-use Rattle.pages.specs.Happenings.{gave, took}
-use Rattle.polled.specs.Happenings.{Happened}
+use Rattle.pages.specs.{declared.table.Browser.Browser, Happenings.gave, Happenings.took}
+use Rattle.polled.specs.{Telling.Tells, Happenings.Happened}
 use Rattle.pages.specs.Turns.{Moves, Moved, Turn, history_at, history_from}
 use Rattle.pages.specs.Kept.{AreKept, IsHeard, IsOpen, IsTold, IsToldOf, Places}
 use Rattle.pages.proofs.Moving.{gave-append, took-append}
@@ -88,8 +85,7 @@ heard-more k xs ys more old new lost told heard moves =
     gave-more k xs ys more told ∙ ap (λ (t : List ℕ). t ++ gave k more) heard ∙ sym moves.heard
 
 took-own : (k : ℕ) (xs ys more : List Happened) (old new : History) (lost : List ℕ)
-    → ys ≡ xs ++ more
-    → took k xs ≡ old.sent → Moves k more old new lost → took k ys ≡ new.sent
+    → ys ≡ xs ++ more → took k xs ≡ old.sent → Moves k more old new lost → took k ys ≡ new.sent
 took-own k xs ys more old new lost told same moves =
     took-more k xs ys more told ∙ ap (λ (t : List ℕ). t ++ took k more) same ∙ sym moves.handed
 
@@ -171,8 +167,7 @@ module _ (k : ℕ) (ts : List Turn) (c d : Connection) (next : ℕ) where
 
   -- all others, and what is known of all
   pub AreKept-turn : (config : Config) (goes : Bool) (a b : Option (List Happened))
-      (places : Places)
-      → ((e : Browser) → places k ≡ Some e → ⊥) → IsOpen config a next ts k c
+      (places : Places) → ((e : Browser) → places k ≡ Some e → ⊥) → IsOpen config a next ts k c
       → Moved k goes a b (history c) (history d) → config_of d ≡ config_of c
       → AreKept config a places next ts → AreKept config b places next after_turn
   AreKept-turn config goes a b places gone own moved same x = record {
@@ -209,8 +204,7 @@ module _ (config : Config) where
 
   pub IsOpen-same : (a b : Option (List Happened)) (more : List Happened) (next : ℕ)
       (ts : List Turn) (k : ℕ) (c : Connection) → Tells a b more → IsQuiet more
-      → IsOpen config a next ts k c
-      → IsOpen config b next ts k c
+      → IsOpen config a next ts k c → IsOpen config b next ts k c
   IsOpen-same a b more next ts k c told quiet x = record {
     came = x.came;
     at = x.at;

@@ -1,25 +1,19 @@
 -- What moves at one browser, one move after the other.
-use Rattle.std.proofs.Common.{◌≡◌, ◌≢◌, ℕ, List, [], ◌∷◌, ◌++◌, Option, Bool, true}
-use Rattle.std.proofs.Common.{if◌then◌else◌, ◌==◌, subst, refl, sym, ap, ◌∙◌, append_assoc}
-use Rattle.std.proofs.Common.{append-nil, length, take, ◌≤◌}
-use Rattle.std.proofs.lemmas.Grind.{flat_map-append}
-use Rattle.std.proofs.lemmas.List.{take-take}
-use Rattle.std.proofs.lemmas.Bool.{ne_eqb, eq-eqb}
+use Rattle.std.proofs.Common.{◌≡◌, ◌≢◌, ℕ, List, [], ◌∷◌, ◌++◌, Option, Bool, true, if◌then◌else◌}
+use Rattle.std.proofs.Common.{◌==◌, subst, refl, sym, ap, ◌∙◌, append_assoc, append-nil, length}
+use Rattle.std.proofs.Common.{take, ◌≤◌}
+use Rattle.std.proofs.lemmas.{Grind.flat_map-append, List.take-take, Bool.ne_eqb, Bool.eq-eqb}
 use Rattle.http_server.specs.History.{History}
-use Rattle.polled.specs.Telling.{Tells}
+use Rattle.polled.{specs.Telling.Tells, proofs.Telling.Tells-nil, proofs.Telling.Tells-trans}
 use Rattle.pages.specs.Happenings.{gave, took, gave_at, took_at}
 use Rattle.polled.specs.Happenings.{Broke, Happened, Gave, Ended, Took}
 use Rattle.pages.specs.Turns.{Hears, Moves, Moved}
-use Rattle.polled.proofs.Telling.{Tells-nil, Tells-trans}
 
 pub gave-append : (k : ℕ) (xs ys : List Happened) → gave k (xs ++ ys) ≡ gave k xs ++ gave k ys
 gave-append k xs ys = flat_map-append (gave_at k) xs ys
 
 pub took-append : (k : ℕ) (xs ys : List Happened) → took k (xs ++ ys) ≡ took k xs ++ took k ys
 took-append k xs ys = flat_map-append (took_at k) xs ys
-
-abbrev Empty : List ℕ → Type 0
-Empty xs = xs ≡ []
 
 both-empty : (xs ys : List ℕ) → xs ≡ [] → ys ≡ [] → xs ++ ys ≡ []
 both-empty xs ys x y = ap (λ (t : List ℕ). t ++ ys) x ∙ y
@@ -36,8 +30,7 @@ Moves-none k more old new quiet received sent = record {
 }
 
 pub Moves-then : (k : ℕ) (xs ys : List Happened) (a b c : History) (lost : List ℕ)
-    → Moves k xs a b []
-    → Moves k ys b c lost → Moves k (xs ++ ys) a c lost
+    → Moves k xs a b [] → Moves k ys b c lost → Moves k (xs ++ ys) a c lost
 Moves-then k xs ys a b c lost x y = record {
   others = λ j apart. (
     gave-append j xs ys ∙ both-empty (gave j xs) (gave j ys) (x.others j apart).0
@@ -50,8 +43,7 @@ Moves-then k xs ys a b c lost x y = record {
       ∙ append_assoc a.received (gave k xs) (gave k ys)
       ∙ ap (λ (t : List ℕ). a.received ++ t) (sym (gave-append k xs ys));
   handed = y.handed
-      ∙ ap (λ (t : List ℕ). t ++ took k ys) x.handed
-      ∙ append_assoc a.sent (took k xs) (took k ys)
+      ∙ ap (λ (t : List ℕ). t ++ took k ys) x.handed ∙ append_assoc a.sent (took k xs) (took k ys)
       ∙ ap (λ (t : List ℕ). a.sent ++ t) (sym (took-append k xs ys));
 }
 
@@ -103,9 +95,8 @@ gave_at-own k bytes = ap (λ b. if b then bytes else []) (eq-eqb k k refl)
 
 -- a write
 pub Moved-took : (k : ℕ) (goes : Bool) (a b : Option (List Happened)) (old new : History)
-    (bytes : List ℕ)
-    → Tells a b (Took k bytes ∷ []) → new.received ≡ old.received → new.sent ≡ old.sent ++ bytes
-    → Moved k goes a b old new
+    (bytes : List ℕ) → Tells a b (Took k bytes ∷ []) → new.received ≡ old.received
+    → new.sent ≡ old.sent ++ bytes → Moved k goes a b old new
 Moved-took k goes a b old new bytes told received sent = (
   Took k bytes ∷ [],
   [],

@@ -1,25 +1,18 @@
 -- What is asked where a browser is given a place, or loses it.
-use Rattle.std.proofs.Common.{◌≡◌, ◌≢◌, ◌↔◌, ◌<◌, inl, inr, refl, sym, ap, ◌∙◌, ℕ}
-use Rattle.std.proofs.Common.{List, [], ◌∷◌, length, Bool, true, false, IsTrue, None}
-use Rattle.std.proofs.Common.{arith, nat_eq, cond}
-use Rattle.std.proofs.lemmas.Bool.{ne_eqb}
-use Rattle.std.specs.Map.{lookup}
+use Rattle.std.proofs.Common.{◌≡◌, ◌≢◌, ◌↔◌, ◌<◌, inl, inr, refl, sym, ap, ◌∙◌, ℕ, List, [], ◌∷◌}
+use Rattle.std.proofs.Common.{length, Bool, true, false, IsTrue, None, arith, nat_eq, cond}
+use Rattle.std.{proofs.lemmas.Bool.ne_eqb, specs.Map.lookup}
 use Rattle.indexmap.specs.IndexMap.{IndexMap, UpdatesBy, get}
 use Rattle.http_server.specs.declared.connection.Connection.{Connection}
-use Rattle.pages.specs.declared.table.Browser.{Browser}
-use Rattle.pages.specs.declared.table.BrowserTable.{BrowserTable}
-use Rattle.pages.specs.Kept.{places_of}
-use Rattle.pages.specs.Asking.{SettlesBy}
-use Rattle.pages.specs.Musts.{Admits, Attends, EndsRound, turned_as}
-use Rattle.pages.specs.Musts.{IsAt, IsGone, IsSame, IsSameBut, Settles, SettlesOn, has_some}
+use Rattle.pages.specs.declared.table.{Browser.Browser, BrowserTable.BrowserTable}
+use Rattle.pages.specs.{Kept.places_of, Asking.SettlesBy, Waiting.goes_on}
+use Rattle.pages.specs.Musts.{Admits, Attends, EndsRound, turned_as, IsAt, IsGone, IsSame}
+use Rattle.pages.specs.Musts.{IsSameBut, Settles, SettlesOn, has_some}
 use Rattle.polled.specs.Requests.{Request}
-use Rattle.pages.specs.Waiting.{goes_on}
-use Rattle.pages.specs.declared.waiting.TurnOutcome.{TurnOutcome}
-use Rattle.pages.specs.declared.waiting.Waiting.{Waiting}
+use Rattle.pages.specs.declared.waiting.{TurnOutcome.TurnOutcome, Waiting.Waiting}
 use Rattle.pages.specs.declared.waiting.TurnOutcome.TheVariants as turn
 
-pub has_some_is : (bytes : List ℕ) (b : Bool) → (IsTrue b ↔ (0 < length bytes))
-    → b ≡ has_some bytes
+pub has_some_is : (bytes : List ℕ) (b : Bool) → (IsTrue b ↔ (0 < length bytes)) → b ≡ has_some bytes
 has_some_is [] true h = absurd (omega (arith, h.0 refl))
 has_some_is [] false h = refl
 has_some_is (x ∷ xs) true h = refl
@@ -46,8 +39,7 @@ abbrev pub placed : Connection → Waiting → Browser
 placed c w = record { connection = c; waiting = w }
 
 module _ {C : Type 0} (k : ℕ) (b : Browser) (old mid new : BrowserTable C)
-    (none : places_of mid k ≡ None)
-    (others : IsSameBut k old mid) where
+    (none : places_of mid k ≡ None) (others : IsSameBut k old mid) where
   at_then : IsAt k b mid new → IsAt k b old new
   at_then h = (h.0, λ j apart. h.1 j apart ∙ others j apart)
 
@@ -86,14 +78,12 @@ module _ {C : Type 0} (t new : BrowserTable C) (s : C) (asked : List Request) wh
   settles_from : (k : ℕ) (b : Browser) (came : TurnOutcome) (last : List Request)
       → Settles k b came over_others new last → Settles k b came t new last
   settles_from k b turn.Over last h = h
-  settles_from k b turn.Answered last h = h
-  settles_from k b turn.Waits last h = h
+  settles_from k b _ last h = h
 
   pub attends_from : (k : ℕ) → Attends k over_others new asked → Attends k t new asked
   attends_from k (inl h) = inl h
   attends_from k (inr h) =
-      inr
-      (record {
+      inr (record {
         one = h.one;
         found = h.found;
         later = h.later;

@@ -1,39 +1,30 @@
 -- The same of a table of browsers.
 use Rattle.std.proofs.Common.{◌≡◌, ◌≢◌, ℕ, List, [], ◌∷◌, ◌++◌, Option, Some, None, Bool, true}
 use Rattle.std.proofs.Common.{false, IsTrue, IsFalse, cond, nat_eq, subst, refl, sym, ap, ◌∙◌}
-use Rattle.std.proofs.lemmas.Bool.{ne_eqb}
-use Rattle.std.specs.Map.{lookup}
+use Rattle.std.{proofs.lemmas.Bool.ne_eqb, specs.Map.lookup}
 use Rattle.indexmap.specs.IndexMap.{IndexMap, Updates, UpdatesBy, get}
-use Rattle.http_server.specs.declared.connection.Connection.{Connection}
+use Rattle.http_server.specs.declared.{connection.Connection.Connection, state.Config.Config}
 use Rattle.http_server.specs.Connection.{config_of, history}
-use Rattle.http_server.specs.declared.state.Config.{Config}
 use Rattle.http_server.specs.History.{History, IsServed, new_history}
 use Rattle.polled.specs.Telling.{Tells}
-use Rattle.pages.specs.declared.table.Browser.{Browser}
-use Rattle.pages.specs.declared.table.BrowserTable.{BrowserTable}
-use Rattle.pages.specs.Browsers.{IsUntold}
+use Rattle.pages.specs.declared.table.{Browser.Browser, BrowserTable.BrowserTable}
+use Rattle.pages.{specs.Browsers.IsUntold, proofs.Keeping.new_is_served}
 use Rattle.pages.specs.Handed.{EachIsAnswered, IsMovedAsTold}
-use Rattle.pages.specs.Happenings.{gave, took}
+use Rattle.pages.specs.{Happenings.gave, Happenings.took, Turns.Moved, Turns.Turn, Turns.history_at}
 use Rattle.polled.specs.Happenings.{Happened, accepted, closed, ready, watched}
-use Rattle.polled.specs.declared.answers.AcceptedPeer.{AcceptedPeer}
-use Rattle.polled.specs.declared.answers.AcceptedPeer.TheVariants as accepted_is
-use Rattle.polled.specs.declared.answers.Ready.{Ready}
-use Rattle.polled.specs.declared.answers.Ready.TheVariants as ready_is
+use Rattle.polled.specs.declared.answers.{AcceptedPeer.AcceptedPeer, Ready.Ready}
 use Rattle.pages.specs.Kept.{AreKept, Holds, IsOpen, IsTold, Places, places_of}
-use Rattle.pages.specs.Turns.{Moved, Turn, history_at}
 use Rattle.pages.proofs.Keeping.{AreKept-fewer, AreKept-same, AreKept-turn, IsOpen-turn, IsQuiet}
-use Rattle.pages.proofs.Keeping.{new_is_served}
+use Rattle.polled.specs.declared.answers.AcceptedPeer.TheVariants as accepted_is
+use Rattle.polled.specs.declared.answers.Ready.TheVariants as ready_is
 
 pub quiet_ready : (r : Ready) → IsQuiet (ready r)
 quiet_ready ready_is.Waits k = (refl, refl)
-quiet_ready (ready_is.Peer number) k = (refl, refl)
-quiet_ready (ready_is.Round now) k = (refl, refl)
-quiet_ready ready_is.Failed k = (refl, refl)
+quiet_ready _ k = (refl, refl)
 
 pub quiet_accepted : (number : ℕ) (a : AcceptedPeer) → IsQuiet (accepted number a)
 quiet_accepted number (accepted_is.Came random) k = (refl, refl)
-quiet_accepted number accepted_is.Nobody k = (refl, refl)
-quiet_accepted number accepted_is.Full k = (refl, refl)
+quiet_accepted number _ k = (refl, refl)
 
 pub quiet_watched : (number : ℕ) (is : Bool) → IsQuiet (watched number is)
 quiet_watched number true k = (refl, refl)
@@ -72,8 +63,7 @@ module _ (config : Config) (a b : Option (List Happened)) (f g : Places) (next :
     (at : f k ≡ Some browser) (fewer : (q : ℕ) (e : Browser) → g q ≡ Some e → f q ≡ Some e)
     (gone : (e : Browser) → g k ≡ Some e → ⊥)
     (same : config_of d ≡ config_of browser.connection) (x : AreKept config a f next ts) where
-  pub AreKept-visit : (goes : Bool)
-      → Moved k goes a b (history browser.connection) (history d)
+  pub AreKept-visit : (goes : Bool) → Moved k goes a b (history browser.connection) (history d)
       → AreKept config b g next (ts ++ (k, d) ∷ [])
   AreKept-visit goes moved =
       AreKept-turn k ts browser.connection d next config goes a b g gone (x.each k browser at) moved

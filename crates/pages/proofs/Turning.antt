@@ -1,10 +1,8 @@
 -- What is asked in a turn, one move after the other.
-use Rattle.std.proofs.Common.{◌≡◌, ◌≢◌, ◌↔◌, ◌<◌, inl, inr, refl, sym, ap, ◌∙◌, ℕ, List}
-use Rattle.std.proofs.Common.{[], ◌∷◌, ◌++◌, length, Bool, true, false, ◌||◌, IsTrue}
-use Rattle.std.proofs.Common.{arith, true≢false}
+use Rattle.std.proofs.Common.{◌≡◌, ◌≢◌, ◌↔◌, ◌<◌, inl, inr, refl, sym, ap, ◌∙◌, ℕ, List, [], ◌∷◌}
+use Rattle.std.proofs.Common.{◌++◌, length, Bool, true, false, ◌||◌, IsTrue, arith, true≢false}
 use Rattle.std.specs.List.{list_any}
-use Rattle.http_server.specs.declared.state.Config.{Config}
-use Rattle.http_server.specs.History.{History, Rests}
+use Rattle.http_server.specs.{declared.state.Config.Config, History.History, History.Rests}
 use Rattle.pages.specs.Asking.{AsksMove, Comes, OffersOnce}
 use Rattle.pages.specs.Musts.{IsMove, MayOffer, Offers, Turns, came_by, has_failed, is_offer}
 use Rattle.polled.specs.Requests.{Request}
@@ -52,9 +50,8 @@ module _ (k : ℕ) (config : Config) (old new : History) (xs ys : List Request) 
 
   -- all moves succeeded
   pub turn_on : (sent : Bool) (came : TurnOutcome) → AsksMove k old true xs → MayOffer k ys
-      → Rests config new → (ys ≡ [] → length new.pending ≡ 0)
-      → list_any is_offer (xs ++ ys) ≡ sent → Comes new sent came
-      → Turns k config old new came (xs ++ ys)
+      → Rests config new → (ys ≡ [] → length new.pending ≡ 0) → list_any is_offer (xs ++ ys) ≡ sent
+      → Comes new sent came → Turns k config old new came (xs ++ ys)
   turn_on sent turn.Over h offer rests prompt is comes = record {
     first = h.first;
     move = h.move;
@@ -94,22 +91,17 @@ module _ (k : ℕ) (config : Config) (old new : History) (xs ys : List Request) 
   pub turn_answered : (came : TurnOutcome) → AsksMove k old true xs → OffersOnce k true ys
       → Rests config new → Comes new true came → Turns k config old new came (xs ++ ys)
   turn_answered came h o rests comes =
-      turn_on true came h (inr (o.0, o.1, o.2)) rests
-      (λ none. let wrong = sym o.2 ∙ none in cc)
-      (ap (list_any is_offer)
-      (all_of h.first h.all ∙ ap (λ (t : List Request). h.first ∷ t) o.2)
+      turn_on true came h (inr (o.0, o.1, o.2)) rests (λ none. let wrong = sym o.2 ∙ none in cc)
+      (ap (list_any is_offer) (all_of h.first h.all ∙ ap (λ (t : List Request). h.first ∷ t) o.2)
       ∙ ap (λ b. is_offer h.first || (b || false)) (offer_is k o.0 o.1)
-      ∙ or_true (is_offer h.first))
-      comes
+      ∙ or_true (is_offer h.first)) comes
 
   -- nothing was
   pub turn_waits : (sending : Bool) (came : TurnOutcome) → AsksMove k old true xs → ys ≡ []
       → (IsTrue sending ↔ (0 < length old.pending)) → length new.pending ≡ 0 → Rests config new
       → Comes new sending came → Turns k config old new came (xs ++ ys)
   turn_waits sending came h none is nothing rests comes =
-      turn_on sending came h (inl none) rests (λ _. nothing)
-      (ap (list_any is_offer)
+      turn_on sending came h (inl none) rests (λ _. nothing) (ap (list_any is_offer)
       (all_of h.first h.all ∙ ap (λ (t : List Request). h.first ∷ t) none)
-      ∙ ap (λ b. b || false) (first_offers k old h.first sending h.move is)
-      ∙ or_false sending)
+      ∙ ap (λ b. b || false) (first_offers k old h.first sending h.move is) ∙ or_false sending)
       comes

@@ -1,22 +1,17 @@
 -- What is asked in the parts of a step (the project's own).
-use Rattle.std.specs.Prelude.{◌≡◌, ◌⊎◌, ℕ, ◌+◌, Bool, true, false, not}
-use Rattle.std.specs.Prelude.{List, [], ◌∷◌, length, Option, None, Some, All, map}
+use Rattle.std.specs.Prelude.{◌≡◌, ◌⊎◌, ℕ, ◌+◌, Bool, true, false, not, List, [], ◌∷◌, length}
+use Rattle.std.specs.Prelude.{Option, None, Some, All, map}
 use Rattle.indexmap.specs.IndexMap.{index_map_len}
 use Rattle.http_server.specs.declared.state.Config.{Config}
 use Rattle.http_server.specs.History.{History, IsDone, Rests}
-use Rattle.pages.specs.Kept.{places_of}
+use Rattle.pages.specs.{Kept.places_of, Musts.is_late_at, declared.waiting.TurnOutcome.TurnOutcome}
 use Rattle.pages.specs.Musts.{GoesOn, IsAt, IsGone, IsIn, IsLongest, IsMove, IsSame, Musts, Offers}
-use Rattle.pages.specs.Musts.{WasLate, came_by, has_failed, has_more, is_in_round, is_late_at}
-use Rattle.pages.specs.Musts.{is_offer, joined}
+use Rattle.pages.specs.Musts.{WasLate, came_by, has_failed, has_more, is_in_round, is_offer, joined}
 use Rattle.polled.specs.Requests.{Request, Reading, Watching, Closing}
-use Rattle.polled.specs.declared.answers.ReadOutcome.{ReadOutcome}
-use Rattle.polled.specs.declared.answers.Ready.{Ready}
+use Rattle.polled.specs.declared.answers.{ReadOutcome.ReadOutcome, Ready.Ready}
+use Rattle.pages.specs.declared.table.{Browser.Browser, Step.Step, BrowserTable.BrowserTable}
 use Rattle.polled.specs.declared.answers.Ready.TheVariants as ready_is
-use Rattle.pages.specs.declared.table.Browser.{Browser}
-use Rattle.pages.specs.declared.table.Step.{Step}
 use Rattle.pages.specs.declared.table.Step.TheVariants as step
-use Rattle.pages.specs.declared.table.BrowserTable.{BrowserTable}
-use Rattle.pages.specs.declared.waiting.TurnOutcome.{TurnOutcome}
 use Rattle.pages.specs.declared.waiting.TurnOutcome.TheVariants as turn
 
 -- ---- one browser

@@ -2,14 +2,11 @@
 use Rattle.std.specs.Prelude.{◌≡◌, ℕ, List, [], Option, None, Some, ⊤}
 use Rattle.http.specs.declared.request.Request.{Request}
 use Rattle.http_server.specs.declared.response.Response.{Response}
-use Rattle.pages.specs.declared.browsers.Browsers.{Browsers}
-use Rattle.polled.specs.declared.peers.Sockets as sockets
-use Rattle.pages.specs.declared.table.BrowserTable.{BrowserTable}
-use Rattle.pages.specs.declared.table.BrowserLimits.{BrowserLimits}
+use Rattle.pages.specs.{declared.browsers.Browsers.Browsers, Musts.IsFresh, Handed.EachIsAnswered}
+use Rattle.pages.specs.declared.table.{BrowserTable.BrowserTable, BrowserLimits.BrowserLimits}
 use Rattle.polled.specs.Happenings.{Happened}
-use Rattle.pages.specs.Musts.{IsFresh}
 use Rattle.pages.specs.Turns.{Turn, Answers}
-use Rattle.pages.specs.Handed.{EachIsAnswered}
+use Rattle.polled.specs.declared.peers.Sockets as sockets
 
 -- the browsers whose connections are open, and how many came
 abbrev pub table_of : {C : Type 0} {g : sockets.Ghosts C} → Browsers C g → BrowserTable C

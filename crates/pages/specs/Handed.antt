@@ -1,10 +1,8 @@
 -- What each browser of many was handed (the project's own).
 use Rattle.std.specs.Prelude.{◌≡◌, ℕ, List, ◌++◌, Option, None, Some, ⊤}
-use Rattle.http_server.specs.declared.state.Config.{Config}
-use Rattle.http_server.specs.History.{History, IsServed}
-use Rattle.pages.specs.Happenings.{gave, took}
+use Rattle.http_server.specs.{declared.state.Config.Config, History.History, History.IsServed}
+use Rattle.pages.specs.{Happenings.gave, Happenings.took, Turns.Turn, Turns.history_at}
 use Rattle.polled.specs.Happenings.{Happened}
-use Rattle.pages.specs.Turns.{Turn, history_at}
 
 -- The browser took what its connection handed out, no more and no less. What the connection heard
 -- is first in what the browser gave.

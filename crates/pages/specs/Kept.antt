@@ -1,19 +1,14 @@
 -- What holds of many browsers between two steps (the project's own).
-use Rattle.std.specs.Prelude.{◌≡◌, ◌≤◌, ◌<◌, ℕ, nat_eq, List, [], ◌++◌}
-use Rattle.std.specs.Prelude.{Option, None, Some, ⊤}
+use Rattle.std.specs.Prelude.{◌≡◌, ◌≤◌, ◌<◌, ℕ, nat_eq, List, [], ◌++◌, Option, None, Some, ⊤}
 use Rattle.indexmap.specs.IndexMap.{get}
 use Rattle.http.specs.declared.request.Request.{Request}
-use Rattle.http_server.specs.declared.connection.Connection.{Connection}
-use Rattle.http_server.specs.declared.response.Response.{Response}
-use Rattle.http_server.specs.declared.state.Config.{Config}
-use Rattle.http_server.specs.Connection.{config_of, history}
-use Rattle.http_server.specs.History.{History, IsServed, new_history}
-use Rattle.pages.specs.declared.table.Browser.{Browser}
-use Rattle.pages.specs.declared.table.BrowserTable.{BrowserTable}
-use Rattle.pages.specs.declared.table.BrowserLimits.{BrowserLimits}
-use Rattle.pages.specs.Happenings.{gave, took}
+use Rattle.http_server.specs.declared.{connection.Connection.Connection, response.Response.Response}
+use Rattle.http_server.specs.{declared.state.Config.Config, History.History, History.IsServed}
+use Rattle.http_server.specs.{Connection.config_of, Connection.history, History.new_history}
+use Rattle.pages.specs.declared.table.{Browser.Browser, BrowserTable.BrowserTable}
+use Rattle.pages.specs.{declared.table.BrowserLimits.BrowserLimits, Happenings.gave}
+use Rattle.pages.specs.{Happenings.took, Turns.Answers, Turns.Turn, Turns.history_at}
 use Rattle.polled.specs.Happenings.{Happened}
-use Rattle.pages.specs.Turns.{Answers, Turn, history_at}
 
 -- ---- one browser
 
@@ -68,8 +63,7 @@ Keeps happened old new = Holds happened old → Holds happened new
 
 -- the same where a browser that has no place may be given one
 abbrev pub KeepsWith : {C : Type 0} → (C → Option (List Happened)) → ℕ → Browser → BrowserTable C
-    → BrowserTable C
-    → Type 0
+    → BrowserTable C → Type 0
 KeepsWith happened k b old new =
     IsOpen old.terms.config (happened old.sockets) old.next old.turns.items k b.connection
     → Holds happened old → Holds happened new

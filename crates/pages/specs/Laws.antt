@@ -1,8 +1,7 @@
 -- What follows of rounds, one after the other (the project's own).
 use Rattle.std.specs.Prelude.{List, [], ℕ, All}
 use Rattle.http.specs.declared.request.Request.{Request}
-use Rattle.http_server.specs.declared.response.Response.{Response}
-use Rattle.http_server.specs.Exchange.{Call}
+use Rattle.http_server.specs.{declared.response.Response.Response, Exchange.Call}
 use Rattle.pages.specs.Turns.{Answers, Turn, history_at}
 
 -- Turns that a service answered, and then turns that it answered from the state in which it was

@@ -1,27 +1,21 @@
 -- What has to be asked of browsers in a round (the project's own).
-use Rattle.std.specs.Prelude.{◌≡◌, ◌≢◌, ◌⊎◌, ℕ, ◌+◌, ◌≤◌, ◌<◌, ◌==◌, ◌&&◌, Bool, true, false}
-use Rattle.std.specs.Prelude.{if◌then◌else◌, List, [], ◌∷◌, ◌++◌, length, Option, None, Some, map}
-use Rattle.std.specs.Prelude.{All}
+use Rattle.std.specs.Prelude.{◌≡◌, ◌≢◌, ◌⊎◌, ◌+◌, ◌≤◌, ◌<◌, [], ◌∷◌, ◌++◌, None, Some, map, All}
+use Rattle.std.specs.Prelude.{ℕ, ◌==◌, ◌&&◌, Bool, true, false, if◌then◌else◌, List, length, Option}
 use Rattle.std.specs.List.{list_any}
 use Rattle.indexmap.specs.IndexMap.{index_map_len}
-use Rattle.http_server.specs.declared.connection.Connection.{Connection}
-use Rattle.http_server.specs.declared.state.Config.{Config}
+use Rattle.http_server.specs.declared.{connection.Connection.Connection, state.Config.Config}
 use Rattle.http_server.specs.Connection.{config_of, history}
 use Rattle.http_server.specs.History.{History, IsDone, Rests, new_history}
-use Rattle.pages.specs.Kept.{Places, places_of}
+use Rattle.pages.specs.{Kept.Places, Kept.places_of, declared.waiting.TurnOutcome.TurnOutcome}
 use Rattle.polled.specs.Requests.{Request, Waited, Accepting, Reading, Writing, Watching, Closing}
 use Rattle.pages.specs.Waiting.{after, is_late, is_longer, waits}
-use Rattle.polled.specs.declared.answers.AcceptedPeer.{AcceptedPeer}
+use Rattle.polled.specs.declared.answers.{AcceptedPeer.AcceptedPeer, ReadOutcome.ReadOutcome}
+use Rattle.polled.specs.declared.answers.{Ready.Ready, WriteOutcome.WriteOutcome}
+use Rattle.pages.specs.declared.table.{Browser.Browser, BrowserTable.BrowserTable}
 use Rattle.polled.specs.declared.answers.AcceptedPeer.TheVariants as accepted_is
-use Rattle.polled.specs.declared.answers.ReadOutcome.{ReadOutcome}
 use Rattle.polled.specs.declared.answers.ReadOutcome.TheVariants as given_is
-use Rattle.polled.specs.declared.answers.Ready.{Ready}
 use Rattle.polled.specs.declared.answers.Ready.TheVariants as ready_is
-use Rattle.polled.specs.declared.answers.WriteOutcome.{WriteOutcome}
 use Rattle.polled.specs.declared.answers.WriteOutcome.TheVariants as taken_is
-use Rattle.pages.specs.declared.table.Browser.{Browser}
-use Rattle.pages.specs.declared.table.BrowserTable.{BrowserTable}
-use Rattle.pages.specs.declared.waiting.TurnOutcome.{TurnOutcome}
 use Rattle.pages.specs.declared.waiting.TurnOutcome.TheVariants as turn
 
 -- ---- a browser's turn
@@ -129,8 +123,7 @@ SettlesOn k b old new asked =
 
 -- or its connection is ended
 abbrev pub Settles : {C : Type 0} → ℕ → Browser → TurnOutcome → BrowserTable C → BrowserTable C
-    → List Request
-    → Type 0
+    → List Request → Type 0
 Settles k b turn.Over old new asked = (asked ≡ Closing k ∷ []) × IsGone k old new
 Settles k b turn.Answered old new asked = SettlesOn k b old new asked
 Settles k b turn.Waits old new asked = SettlesOn k b old new asked
@@ -147,8 +140,7 @@ pub record IsAttended {C : Type 0} (k : ℕ) (old new : BrowserTable C) (asked :
   pub later : Connection
   pub came : TurnOutcome
   pub moves : List Request
-  pub turns : Turns k (config_of one.connection) (history one.connection) (history later) came
-      moves
+  pub turns : Turns k (config_of one.connection) (history one.connection) (history later) came moves
   pub limits : config_of later ≡ config_of one.connection
   pub last : List Request
   pub settles : Settles k (turned_as one later came old.now) came old new last
@@ -191,8 +183,7 @@ abbrev pub GivesPlace : {C : Type 0} → AcceptedPeer → BrowserTable C → Bro
     → Type 0
 GivesPlace (accepted_is.Came random) old new more =
     (new.next ≡ old.next + 1)
-    × (((more ≡ []) × Seats old new)
-    ⊎ ((more ≡ Closing old.next ∷ []) × IsSame old new))
+    × (((more ≡ []) × Seats old new) ⊎ ((more ≡ Closing old.next ∷ []) × IsSame old new))
 GivesPlace accepted_is.Nobody old new more =
     (new.next ≡ old.next) × (more ≡ []) × IsSame old new
 GivesPlace accepted_is.Full old new more =
@@ -298,8 +289,7 @@ abbrev pub Ends : {C : Type 0} → ℕ → ℕ → Option ℕ → BrowserTable C
     → Type 0
 Ends wait count (Some now) a b last = Musts wait (ready_is.Round now) a b last
 Ends wait count None a b last =
-    Musts wait ready_is.Failed a b last
-    ⊎ ((count ≡ 18446744073709551615) × (a ≡ b) × (last ≡ []))
+    Musts wait ready_is.Failed a b last ⊎ ((count ≡ 18446744073709551615) × (a ≡ b) × (last ≡ []))
 
 -- all that is asked in a round that is over at this time, if it ever is
 pub record AsksRound {C : Type 0} (wait : ℕ) (over : Option ℕ) (a b : BrowserTable C)

@@ -2,14 +2,11 @@
 use Rattle.std.specs.Prelude.{◌≡◌, ◌≢◌, ℕ, ◌==◌, if◌then◌else◌, Bool, List, [], ◌∷◌, ◌++◌, IsTrue}
 use Rattle.std.specs.Prelude.{Option}
 use Rattle.http.specs.declared.request.Request.{Request}
-use Rattle.http_server.specs.declared.connection.Connection.{Connection}
-use Rattle.http_server.specs.declared.response.Response.{Response}
-use Rattle.http_server.specs.Connection.{history}
-use Rattle.http_server.specs.Exchange.{Calls}
+use Rattle.http_server.specs.declared.{connection.Connection.Connection, response.Response.Response}
+use Rattle.http_server.specs.{Connection.history, Exchange.Calls}
 use Rattle.http_server.specs.History.{History, new_history}
-use Rattle.polled.specs.Telling.{Tells}
+use Rattle.polled.specs.{Telling.Tells, Happenings.Happened}
 use Rattle.pages.specs.Happenings.{gave, took}
-use Rattle.polled.specs.Happenings.{Happened}
 
 -- ---- one browser
 

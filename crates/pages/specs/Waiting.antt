@@ -1,10 +1,8 @@
 -- For how long a browser is waited for (the project's own).
 use Rattle.std.specs.Prelude.{ℕ, ◌-◌, ◌==◌, ◌&&◌, ◌||◌, ltb, Bool, true, false, if◌then◌else◌}
-use Rattle.pages.specs.declared.waiting.TurnOutcome.{TurnOutcome}
-use Rattle.pages.specs.declared.waiting.TurnOutcome.TheVariants as turn
-use Rattle.pages.specs.declared.waiting.Waiting.{Waiting}
-use Rattle.pages.specs.declared.waiting.Longest.{Longest}
 use Rattle.std.specs.Prelude.{Option, None, Some}
+use Rattle.pages.specs.declared.waiting.{TurnOutcome.TurnOutcome, Waiting.Waiting, Longest.Longest}
+use Rattle.pages.specs.declared.waiting.TurnOutcome.TheVariants as turn
 
 abbrev pub waits : ℕ → Bool → Waiting
 waits since is_idle = record { since = since; is_idle = is_idle }

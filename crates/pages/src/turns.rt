@@ -1,13 +1,10 @@
 //! One browser that is ready: bytes are moved, and what came is answered.
 
 ghost use Rattle.std.specs.Prelude.{◌≡◌, ◌<◌, [], length};
-ghost use Rattle.http_server.specs.Connection.{config_of, history};
-ghost use Rattle.http_server.specs.Exchange.{Calls};
+ghost use Rattle.http_server.specs.{Connection.config_of, Connection.history, Exchange.Calls};
 ghost use Rattle.pages.specs.Asking.{AsksAnswer, AsksMove, Comes, OffersOnce, ReadsOnce};
-ghost use Rattle.pages.specs.Musts.{Turns};
+ghost use Rattle.pages.specs.{Musts.Turns, Turns.Hears, Turns.Moved, Waiting.goes_on};
 ghost use Rattle.polled.specs.Requests.{Asks};
-ghost use Rattle.pages.specs.Turns.{Hears, Moved};
-ghost use Rattle.pages.specs.Waiting.{goes_on};
 
 use crate::waiting::TurnOutcome;
 use http_server::{Connection, Service};
@@ -146,9 +143,8 @@ pub(crate) fn take_turn<C: Sockets, S: Service>(
     ensures calls { Calls S.answers service.old service.new
         (history connection.old).calls (history connection.new).calls }
     ensures config { config_of connection.new ≡ config_of connection.old }
-    ensures asks { Asks C.requests sockets.old sockets.new
-        (Turns number (config_of connection.old) (history connection.old)
-        (history connection.new) result) }
+    ensures asks { Asks C.requests sockets.old sockets.new (Turns number (config_of connection.old)
+        (history connection.old) (history connection.new) result) }
 {
     let was_sending = connection.wants_write();
     if !move_bytes(number, connection, sockets) {

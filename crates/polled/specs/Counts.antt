@@ -1,8 +1,7 @@
 -- How many bytes are read and written at once (the project's own).
 use Rattle.std.specs.Prelude.{◌≤◌, ℕ}
-use Rattle.polled.specs.declared.answers.ReadOutcome.{ReadOutcome}
+use Rattle.polled.specs.declared.answers.{ReadOutcome.ReadOutcome, WriteOutcome.WriteOutcome}
 use Rattle.polled.specs.declared.answers.ReadOutcome.TheVariants as given_is
-use Rattle.polled.specs.declared.answers.WriteOutcome.{WriteOutcome}
 use Rattle.polled.specs.declared.answers.WriteOutcome.TheVariants as taken_is
 
 -- a read gives at least one byte, and at most as many as the buffer holds

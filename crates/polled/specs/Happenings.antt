@@ -1,12 +1,10 @@
 -- What comes of many peers, where it is known (the project's own).
 use Rattle.std.specs.Prelude.{ℕ, Bool, true, false, List, [], ◌∷◌, take}
-use Rattle.polled.specs.declared.answers.Ready.{Ready}
+use Rattle.polled.specs.declared.answers.{Ready.Ready, AcceptedPeer.AcceptedPeer}
+use Rattle.polled.specs.declared.answers.{ReadOutcome.ReadOutcome, WriteOutcome.WriteOutcome}
 use Rattle.polled.specs.declared.answers.Ready.TheVariants as ready_is
-use Rattle.polled.specs.declared.answers.AcceptedPeer.{AcceptedPeer}
 use Rattle.polled.specs.declared.answers.AcceptedPeer.TheVariants as accepted_is
-use Rattle.polled.specs.declared.answers.ReadOutcome.{ReadOutcome}
 use Rattle.polled.specs.declared.answers.ReadOutcome.TheVariants as given_is
-use Rattle.polled.specs.declared.answers.WriteOutcome.{WriteOutcome}
 use Rattle.polled.specs.declared.answers.WriteOutcome.TheVariants as taken_is
 
 -- A peer is named by the number under which it was accepted.

@@ -1,10 +1,8 @@
 -- What is asked of sockets, and what comes of it, where that is known (the project's own).
 use Rattle.std.specs.Prelude.{ℕ, Bool, List, Option}
 use Rattle.polled.specs.Telling.{Tells}
-use Rattle.polled.specs.declared.answers.AcceptedPeer.{AcceptedPeer}
-use Rattle.polled.specs.declared.answers.Ready.{Ready}
-use Rattle.polled.specs.declared.answers.ReadOutcome.{ReadOutcome}
-use Rattle.polled.specs.declared.answers.WriteOutcome.{WriteOutcome}
+use Rattle.polled.specs.declared.answers.{AcceptedPeer.AcceptedPeer, Ready.Ready}
+use Rattle.polled.specs.declared.answers.{ReadOutcome.ReadOutcome, WriteOutcome.WriteOutcome}
 
 -- A peer is named by the number under which it is accepted.
 pub data Request : Type 0 where

@@ -4,8 +4,7 @@ ghost use Rattle.std.specs.Prelude.{◌≢◌, [], ◌∷◌, List, Option, leng
 ghost use Rattle.polled.specs.Counts.{CountsGiven, CountsTaken};
 ghost use Rattle.polled.specs.Happenings.{Happened, accepted, closed, given, ready, taken, watched};
 ghost use Rattle.polled.specs.Requests.{Request, Waited, Accepting, Reading, Writing, Watching};
-ghost use Rattle.polled.specs.Requests.{Closing};
-ghost use Rattle.polled.specs.Telling.{Tells};
+ghost use Rattle.polled.specs.{Requests.Closing, Telling.Tells};
 
 use crate::{AcceptedPeer, ReadOutcome, Ready, WriteOutcome};
 

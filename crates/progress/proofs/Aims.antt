@@ -1,32 +1,22 @@
 -- What desk d aims at: that its first entry is decided, with help alone and in this many events. It
 -- is shown at once of desks that take events alone, and of those that start where their logs grow.
+use Rattle.learner.proofs.{Cases.by_test, Runs.run_append, InRange.messages_are_in_range}
 use Rattle.std.proofs.Common.{◌≡◌, ℕ, zero, suc, ◌≤◌, ◌<◌, ◌+◌, ◌-◌, ◌*◌, Bool, true, false}
 use Rattle.std.proofs.Common.{if◌then◌else◌, ◌==◌, ◌&&◌, nat_lt, List, [], ◌∷◌, ◌++◌, inl, inr}
 use Rattle.std.proofs.Common.{Option, Some, None, Ok, length, slice_get, refl, sym, ap, ◌∙◌, subst}
-use Rattle.std.proofs.Common.{arith}
-use Rattle.std.proofs.Common.{length-append}
-use Rattle.std.proofs.lemmas.Bool.Decides.{nat_tests}
-use Rattle.acceptor.specs.declared.entry.Entry.{Entry}
-use Rattle.acceptor.specs.declared.message.Message.{Message}
-use Rattle.acceptor.specs.declared.stored.Change.{Change}
+use Rattle.std.proofs.{Common.arith, Common.length-append, lemmas.Bool.Decides.nat_tests}
+use Rattle.acceptor.specs.declared.{entry.Entry.Entry, message.Message.Message}
+use Rattle.acceptor.specs.{declared.stored.Change.Change, Storing.log_after}
 use Rattle.acceptor.specs.declared.stored.Change.TheVariants.{Promised, Voted, Tried, Appended}
-use Rattle.acceptor.specs.Storing.{log_after}
-use Rattle.proposer.specs.declared.plan.Plan.{Plan}
-use Rattle.proposer.specs.Proposing.{tick}
+use Rattle.proposer.specs.{declared.plan.Plan.Plan, Proposing.tick}
 use Rattle.learner.specs.declared.event.DeskEvent.TheVariants.{Start, Tick, Deliver}
-use Rattle.learner.specs.declared.event.WorldEvent.{WorldEvent}
-use Rattle.learner.specs.declared.event.WorldEvent.TheVariants.{Submit as SubmitAt}
+use Rattle.learner.specs.declared.event.WorldEvent.{WorldEvent, TheVariants.Submit as SubmitAt}
 use Rattle.learner.specs.declared.event.WorldEvent.TheVariants.{Start as StartAt, Tick as TickAt}
-use Rattle.learner.specs.declared.event.WorldEvent.TheVariants.{Deliver as DeliverNth}
-use Rattle.learner.specs.declared.event.WorldEvent.TheVariants.{Restart as RestartAt}
-use Rattle.learner.specs.Chosen.{Has, IsMajority}
-use Rattle.learner.specs.Desks.{Desk, adopt, passing}
-use Rattle.learner.specs.Steps.{IsDesk, is_desk, is_heeded, on_body, done, idle, planned, step}
-use Rattle.learner.specs.Worlds.{World, put, world_after, at_desk, nth_sent, delivered, happens}
-use Rattle.learner.specs.Worlds.{run, after, new_world}
-use Rattle.learner.specs.Ranges.{IsInRange}
-use Rattle.learner.proofs.Runs.{run_append}
-use Rattle.learner.proofs.InRange.{messages_are_in_range}
+use Rattle.learner.specs.{declared.event.WorldEvent.TheVariants.Deliver as DeliverNth, Steps.IsDesk}
+use Rattle.learner.specs.{declared.event.WorldEvent.TheVariants.Restart as RestartAt, Steps.is_desk}
+use Rattle.learner.specs.{Desks.Desk, Desks.adopt, Desks.passing, Steps.is_heeded, Steps.on_body}
+use Rattle.learner.specs.{Chosen.Has, Chosen.IsMajority, Ranges.IsInRange, Worlds.new_world}
+use Rattle.learner.specs.Worlds.{World, put, at_desk, nth_sent, delivered, happens, run, after}
 use Rattle.progress.specs.Progress.{IsAmong, IsHelp, lacking}
 use Rattle.progress.specs.Turns.{has_grown, started, turn_of, takes_turn}
 
@@ -82,11 +72,9 @@ IsRunTo n w v = (es : List WorldEvent) × (run n w es ≡ v)
 
 run_starts : (n k before : ℕ) (w v : World) (e : WorldEvent) → happens n w e ≡ v
     → IsRunTo n w (started n k before v)
-run_starts n k before w v e same = go (has_grown before (v.desks k))
-  where
-    go : (t : Bool) → IsRunTo n w (if t then at_desk n v k Start else v)
-    go true = (e ∷ StartAt k ∷ [], ap (λ u. at_desk n u k Start) same)
-    go false = (e ∷ [], same)
+run_starts n k before w v e same =
+    by_test (IsRunTo n w) (has_grown before (v.desks k)) _ _
+    (λ t. (e ∷ StartAt k ∷ [], ap (λ u. at_desk n u k Start) same)) (λ t. (e ∷ [], same))
 
 run_goes : (s : Bool) (n : ℕ) (w : World) (e : WorldEvent) → IsRunTo n w (goes s n w e)
 run_goes false n w e = (e ∷ [], refl)
@@ -151,8 +139,8 @@ pub cost_less : (a : Aim) (v w : World) → length (w.desks a.d).log ≤ length 
     → cost a v ≤ cost a w
 cost_less a v w l = go a.starts
   where
-    go : (s : Bool)
-        → cost_of s (a.top - length (v.desks a.d).log) ≤ cost_of s (a.top - length (w.desks a.d).log)
+    go : (s : Bool) → cost_of s (a.top - length (v.desks a.d).log) ≤ cost_of s
+        (a.top - length (w.desks a.d).log)
     go false = omega arith
     go true = omega (arith, l)
 
@@ -205,8 +193,7 @@ decides_more a few many w l h =
 pub decides_by : (a : Aim) (few many : ℕ) (w v : World) (e : WorldEvent)
     → IsHelp a.d a.desks a.start w e → goes a.starts a.n w e ≡ v → suc few ≤ many
     → Decides a few v → Decides a many w
-decides_by a few many w v e h same l next =
-    go (subst (λ (u : World). Decides a few u) (sym same) next)
+decides_by a few many w v e h same l next = go (rw same next)
   where
     go : Decides a few (goes a.starts a.n w e) → Decides a many w
     go k =
@@ -225,26 +212,19 @@ carried w k p =
 -- what holds of the desk that was put there, and of the old one elsewhere
 pub put_at : (P : Desk → Type 0) (desks : ℕ → Desk) (k : ℕ) (y : Desk) (j : ℕ) → (k ≡ j → P y)
     → P (desks j) → P (put desks k y j)
-put_at P desks k y j new old = go (k == j) refl
-  where
-    go : (t : Bool) → (k == j) ≡ t → P (if t then y else desks j)
-    go true e = new (grind (arith, nat_tests))
-    go false e = old
+put_at P desks k y j new old =
+    by_test P (k == j) _ _ (λ e. new (grind (arith, nat_tests))) (λ e. old)
 
 pub put_other : (desks : ℕ → Desk) (k : ℕ) (y : Desk) (j : ℕ) → ¬ (k ≡ j)
     → put desks k y j ≡ desks j
-put_other desks k y j ne =
-    put_at (λ x. x ≡ desks j) desks k y j (λ s. absurd (ne s)) refl
+put_other desks k y j ne = put_at (λ x. x ≡ desks j) desks k y j (λ s. absurd (ne s)) refl
 
 -- a part of a desk that a step leaves as it is, is the same at all desks
 pub put_same : {A : Type 0} (f : Desk → A) (desks : ℕ → Desk) (k : ℕ) (y : Desk)
     → f y ≡ f (desks k) → (j : ℕ) → f (put desks k y j) ≡ f (desks j)
-put_same f desks k y h j = go (k == j) refl
-  where
-    go : (t : Bool) → (k == j) ≡ t → f (if t then y else desks j) ≡ f (desks j)
-    go true e =
-        let same : k ≡ j = grind (arith, nat_tests) in h ∙ ap (λ i. f (desks i)) same
-    go false e = refl
+put_same f desks k y h j =
+    by_test (λ z. f z ≡ f (desks j)) (k == j) _ _
+    (λ e. let same : k ≡ j = grind (arith, nat_tests) in h ∙ ap (λ i. f (desks i)) same) (λ e. refl)
 
 pub self_test : (k : ℕ) → (k == k) ≡ true
 self_test k = grind (arith, nat_tests)
@@ -264,23 +244,15 @@ heeded_test n m r =
     both_true _ _ (both_true _ _ (self_test m.to) (desk_test n m.from r.from)) r.body
 
 -- a message in range comes to its receiver, and is heeded
-heard_is : (n : ℕ) (w : World) (m : Message) → IsInRange n m
-    → at_desk n w m.to (Deliver m)
+heard_is : (n : ℕ) (w : World) (m : Message) → IsInRange n m → at_desk n w m.to (Deliver m)
     ≡ carried w m.to (on_body n m.to (w.desks m.to) m.from m.body)
-heard_is n w m r =
-    ap (λ t. if t then world_after w m.to (step n m.to (w.desks m.to) (Deliver m)) else w)
-    (desk_test n m.to r.to)
-    ∙ ap (λ t. world_after w m.to (if t then Ok
-    (done (w.desks m.to) (on_body n m.to (w.desks m.to) m.from m.body)) else Ok
-    (idle (w.desks m.to)))) (heeded_test n m r)
+heard_is n w m r = cc (desk_test n m.to r.to, heeded_test n m r)
 
 -- a Tick that is not refused
 pub tick_is : (n : ℕ) (w : World) (d : ℕ) (p : Plan) → IsDesk n d
     → tick n d (w.desks d).stored (length (w.desks d).log) (passing (w.desks d)) ≡ Ok p
     → at_desk n w d Tick ≡ carried w d p
-tick_is n w d p ours h =
-    ap (λ t. if t then world_after w d (step n d (w.desks d) Tick) else w) (desk_test n d ours)
-    ∙ ap (λ r. world_after w d (planned (w.desks d) r)) h
+tick_is n w d p ours h = cc (desk_test n d ours)
 
 -- what was sent stays at its place
 pub get_left : {A : Type 0} (xs ys : List A) (i : ℕ) (m : A) → slice_get xs i ≡ Some m
@@ -307,12 +279,7 @@ pending_more a w k p m h = (h.0, h.1, get_left w.sent p.messages h.0 m h.2)
 
 pub pending_new : (a : Aim) (w : World) (k : ℕ) (p : Plan) (i : ℕ) (m : Message)
     → a.start ≤ length w.sent → slice_get p.messages i ≡ Some m → IsPending a (carried w k p) m
-pending_new a w k p i m h at = (
-  length w.sent + i,
-  omega (arith, h),
-  get_right w.sent p.messages i m
-      at,
-)
+pending_new a w k p i m h at = (length w.sent + i, omega (arith, h), search get_right)
 
 pub late_more : (a : Aim) (w : World) (k : ℕ) (p : Plan) → a.start ≤ length w.sent
     → a.start ≤ length (carried w k p).sent
@@ -323,8 +290,7 @@ pub lacking_less : (v w : World) (top : ℕ) (ks : List ℕ)
     → ((j : ℕ) → length (w.desks j).log ≤ length (v.desks j).log)
     → lacking v top ks ≤ lacking w top ks
 lacking_less v w top [] h = omega arith
-lacking_less v w top (k ∷ ks) h =
-    let here = h k in let rest = lacking_less v w top ks h in omega (arith, here, rest)
+lacking_less v w top (k ∷ ks) h = omega (arith, h k, lacking_less v w top ks h)
 
 pays_first : (v w : World) (top x : ℕ) (ks : List ℕ) (k : ℕ)
     → ((j : ℕ) → length (w.desks j).log ≤ length (v.desks j).log) → Has (x ∷ ks) k
@@ -335,9 +301,14 @@ pays_first v w top x ks k h i longer low later = elim i [ inl s ↦ here s | inr
   where
     here : x ≡ k → lacking v top (x ∷ ks) + 1 ≤ lacking w top (x ∷ ks)
     here s =
-        let p = ap (λ j. length (w.desks j).log) s in
-        let q = ap (λ j. length (v.desks j).log) s in
-        let r = lacking_less v w top ks h in omega (arith, p, q, r, longer, low)
+        omega (
+          arith,
+          ap (λ j. length (w.desks j).log) s,
+          ap (λ j. length (v.desks j).log) s,
+          lacking_less v w top ks h,
+          longer,
+          low,
+        )
 
     there : Has ks k → lacking v top (x ∷ ks) + 1 ≤ lacking w top (x ∷ ks)
     there m = let r = later m in let p = h x in omega (arith, p, r)
@@ -349,8 +320,7 @@ pub lacking_pays : (v w : World) (top : ℕ) (ks : List ℕ) (k : ℕ)
     → lacking v top ks + 1 ≤ lacking w top ks
 lacking_pays v w top [] k h i longer low = elim i [ ]
 lacking_pays v w top (x ∷ ks) k h i longer low =
-    pays_first v w top x ks k h i longer low
-    (λ m. lacking_pays v w top ks k h m longer low)
+    pays_first v w top x ks k h i longer low (λ m. lacking_pays v w top ks k h m longer low)
 
 pub log_grows : (log : List Entry) (c : Option Change) → length log ≤ length (log_after log c)
 log_grows log None = omega arith
@@ -367,49 +337,41 @@ logs_grow w k p j =
     (log_grows (w.desks k).log p.change)) (omega arith)
 
 pub lack_less : (a : Aim) (w : World) (k : ℕ) (p : Plan) → lack a (carried w k p) ≤ lack a w
-lack_less a w k p =
-    let l = lacking_less (carried w k p) w a.top a.desks (logs_grow w k p) in omega (arith, l)
+lack_less a w k p = omega (arith, lacking_less (carried w k p) w a.top a.desks (logs_grow w k p))
 
 pub lack_pays : (a : Aim) (w : World) (k : ℕ) (p : Plan) (c : Entry) → Has a.desks k
     → p.change ≡ Some (Appended c) → length (w.desks k).log < a.top
     → lack a (carried w k p) + 2 ≤ lack a w
 lack_pays a w k p c i change low =
+    let grown : length ((carried w k p).desks k).log ≡ length (w.desks k).log + 1 = ap
+    (λ y. length y.log) (put_self w.desks k (adopt (w.desks k) p)) ∙ ap
+    (λ o. length (log_after (w.desks k).log o)) change ∙ length-append (w.desks k).log (c ∷ []) in
     let long : length ((carried w k p).desks k).log ≡ length (w.desks k).log + 1 = grown in
-    let l = lacking_pays (carried w k p) w a.top a.desks k (logs_grow w k p) i (omega (arith, long))
-    low in
-    omega (arith, l)
-  where
-    grown : length ((carried w k p).desks k).log ≡ length (w.desks k).log + 1
-    grown =
-        ap (λ y. length y.log) (put_self w.desks k (adopt (w.desks k) p))
-        ∙ ap (λ o. length (log_after (w.desks k).log o)) change
-        ∙ length-append (w.desks k).log (c ∷ [])
+    omega (
+      arith,
+      lacking_pays (carried w k p) w a.top a.desks k (logs_grow w k p) i
+          (omega (arith, long)) low,
+    )
 
 -- a pending message among the desks comes, the receiver carries out this plan, and may start
 pub arrives : (a : Aim) (few many : ℕ) (w : World) (m : Message) (p : Plan) → IsReached a.n w
     → Has a.desks m.from → Has a.desks m.to → IsPending a w m
     → on_body a.n m.to (w.desks m.to) m.from m.body ≡ p → suc few ≤ many
-    → (IsReached a.n (carried w m.to p)
-    → Decides a few
-    (may_start a.starts a.n m.to (length (w.desks m.to).log) (carried w m.to p)))
-    → Decides a many w
+    → (IsReached a.n (carried w m.to p) → Decides a few
+    (may_start a.starts a.n m.to (length (w.desks m.to).log) (carried w m.to p))) → Decides a many w
 arrives a few many w m p r from to h same l next =
     let late = h.1 in
     decides_by a few many w (may_start a.starts a.n m.to before (carried w m.to p))
     (DeliverNth (suc h.0))
     (omega (arith, late), subst (λ (o : Option Message). IsAmong a.desks o) (sym h.2) (from, to))
-    (went a.starts) l
-    (next
-    (subst (λ (v : World). IsReached a.n v) (went false)
+    (went a.starts) l (next (subst (λ (v : World). IsReached a.n v) (went false)
     (reached_more a.n w (DeliverNth (suc h.0)) r)))
   where
     before : ℕ
     before = length (w.desks m.to).log
 
     range : IsInRange a.n m
-    range =
-        messages_are_in_range a.n r.past h.0 m
-        (subst (λ (v : World). slice_get v.sent h.0 ≡ Some m) (sym r.same) h.2)
+    range = messages_are_in_range a.n r.past h.0 m (rw (← r.same) at h.2)
 
     is : at_desk a.n w m.to (Deliver m) ≡ carried w m.to p
     is = heard_is a.n w m range ∙ ap (λ q. carried w m.to q) same
@@ -425,27 +387,21 @@ pub comes : (a : Aim) (c : ℕ) (w : World) (m : Message) (p : Plan) → IsReach
     → on_body a.n m.to (w.desks m.to) m.from m.body ≡ p
     → length (log_after (w.desks m.to).log p.change) ≤ length (w.desks m.to).log
     → (IsReached a.n (carried w m.to p)
-    → Decides a (lack a (carried w m.to p) + c) (carried w m.to p))
-    → Decides a (lack a w + suc c) w
+    → Decides a (lack a (carried w m.to p) + c) (carried w m.to p)) → Decides a (lack a w + suc c) w
 comes a c w m p r from to h same short next =
+    let still : length ((carried w m.to p).desks m.to).log ≤ length (w.desks m.to).log = let e = ap
+    (λ y. length y.log) (put_self w.desks m.to (adopt (w.desks m.to) p)) in let s = short in omega
+    (arith, e, s) in
     let l = lack_less a w m.to p in
-    arrives a (lack a (carried w m.to p) + c) (lack a w + suc c) w m p r from to h same
-    (omega (arith, l))
+    arrives a _ _ w m p r from to h same (omega (arith, l))
     (λ reached. subst (λ (v : World). Decides a (lack a (carried w m.to p) + c) v)
-    (sym (rests a.starts a.n m.to (length (w.desks m.to).log) (carried w m.to p) still))
-    (next reached))
-  where
-    still : length ((carried w m.to p).desks m.to).log ≤ length (w.desks m.to).log
-    still =
-        let e = ap (λ y. length y.log) (put_self w.desks m.to (adopt (w.desks m.to) p)) in
-        let s = short in omega (arith, e, s)
+    (sym (rests _ _ _ _ _ still)) (next reached))
 
 -- desk d ticks, and its log does not grow
 pub ticks : (a : Aim) (c : ℕ) (w : World) (p : Plan) → IsReached a.n w
     → tick a.n a.d (w.desks a.d).stored (length (w.desks a.d).log) (passing (w.desks a.d)) ≡ Ok p
     → length (log_after (w.desks a.d).log p.change) ≤ length (w.desks a.d).log
-    → (IsReached a.n (carried w a.d p)
-    → Decides a (lack a (carried w a.d p) + c) (carried w a.d p))
+    → (IsReached a.n (carried w a.d p) → Decides a (lack a (carried w a.d p) + c) (carried w a.d p))
     → Decides a (lack a w + suc c) w
 ticks a c w p r h short next =
     let l = lack_less a w a.d p in

@@ -1,29 +1,19 @@
 -- What a desk answers to the messages that are sent on the way.
-use Rattle.std.proofs.Common.{◌≡◌, ℕ, zero, suc, ◌<◌, ◌+◌, max, true, false, if◌then◌else◌, ◌==◌}
-use Rattle.std.proofs.Common.{nat_lt, List, [], ◌∷◌, Option, Some, None, length, slice_get, take}
-use Rattle.std.proofs.Common.{drop, refl, ap, ◌∙◌, arith}
-use Rattle.std.proofs.lemmas.Bool.Decides.{nat_tests}
-use Rattle.std.proofs.lemmas.Option.{slice_get_past}
-use Rattle.acceptor.specs.declared.ballot.Ballot.{Ballot}
-use Rattle.acceptor.specs.Ballots.{is_below, is_same}
-use Rattle.acceptor.specs.declared.entry.Entry.{Entry}
-use Rattle.acceptor.specs.declared.message.Report.{Report}
+use Rattle.std.proofs.Common.{◌≡◌, ℕ, zero, suc, ◌<◌, ◌+◌, max, true, false, ◌==◌, nat_lt, List, []}
+use Rattle.std.proofs.Common.{◌∷◌, Option, Some, None, length, slice_get, take, drop, refl, ap, ◌∙◌}
+use Rattle.std.proofs.{Common.arith, lemmas.Bool.Decides.nat_tests, lemmas.Option.slice_get_past}
+use Rattle.acceptor.specs.declared.{ballot.Ballot.Ballot, entry.Entry.Entry}
+use Rattle.acceptor.specs.{Ballots.is_same, Messages.message, Messages.has, Answers.reported}
+use Rattle.acceptor.specs.declared.message.{Report.Report, Message.Message}
 use Rattle.acceptor.specs.declared.message.Body.TheVariants.{Prepare, Promise, Accept, Accepted}
 use Rattle.acceptor.specs.declared.message.Body.TheVariants.{Nack, Behind, Decided}
-use Rattle.acceptor.specs.declared.message.Message.{Message}
 use Rattle.acceptor.specs.declared.stored.Change.TheVariants.{Promised, Voted}
-use Rattle.acceptor.specs.Messages.{message, has}
-use Rattle.acceptor.specs.Answers.{reported, elsewhere, prepare_here, accept_here}
-use Rattle.proposer.specs.declared.role.PromisingDesk.{PromisingDesk}
+use Rattle.proposer.specs.declared.{role.PromisingDesk.PromisingDesk, plan.Plan.Plan}
 use Rattle.proposer.specs.declared.role.Role.TheVariants.{Idle, Gathering, Proposing}
-use Rattle.proposer.specs.declared.plan.Plan.{Plan}
-use Rattle.proposer.specs.Plans.{only_say, append}
-use Rattle.proposer.specs.Proposing.{was_heard, promises_heard, promise_by_role, votes_heard}
-use Rattle.proposer.specs.Proposing.{accepted_by_role, is_ballot_of}
-use Rattle.learner.specs.Desks.{Desk, passing}
+use Rattle.proposer.specs.Plans.{append}
+use Rattle.proposer.specs.Proposing.{was_heard, promises_heard, votes_heard, is_ballot_of}
+use Rattle.learner.specs.{Desks.Desk, Desks.passing, Learning.told, Steps.on_body}
 use Rattle.learner.specs.Order.{IsAtMost, IsBelow}
-use Rattle.learner.specs.Learning.{told, longest_run}
-use Rattle.learner.specs.Steps.{answered, on_body}
 use Rattle.progress.proofs.Fits.{makes}
 
 number_test : (k : ℕ) → (k == k) ≡ true
@@ -69,31 +59,22 @@ takes_in x k d e = append (passing x) e Idle (message k d (Behind (length x.log 
 -- desk k at a Prepare of a ballot above its promise, at its log's length
 pub promised_at : (n d k : ℕ) (x : Desk) (b : Ballot) (m : ℕ) → length x.log ≡ m
     → IsBelow x.stored.promised b → on_body n k x d (Prepare b m) ≡ promises x k d b m
-promised_at n d k x b m same low =
-    ap (λ t. answered k x d (if t then prepare_here x.stored b m else elsewhere (slice_get x.log m)
-    (length x.log) m)) (here_test m (length x.log) same)
-    ∙ ap (λ t. answered k x d (if t then record
-    { change = Some (Promised b); body = Promise b m (reported x.stored.vote m) } else record
-    { change = None; body = Nack b m x.stored.promised })) low
+promised_at n d k x b m same low = cc (here_test m (length x.log) same)
 
 -- of one that is not above it
 pub refused_at : (n d k : ℕ) (x : Desk) (b : Ballot) (m : ℕ) → length x.log ≡ m
     → IsAtMost b x.stored.promised → on_body n k x d (Prepare b m) ≡ refuses x k d b m
-refused_at n d k x b m same high =
-    ap (λ t. answered k x d (if t then prepare_here x.stored b m else elsewhere (slice_get x.log m)
-    (length x.log) m)) (here_test m (length x.log) same)
-    ∙ ap (λ t. answered k x d (if t then record
-    { change = Some (Promised b); body = Promise b m (reported x.stored.vote m) } else record
-    { change = None; body = Nack b m x.stored.promised })) high
+refused_at n d k x b m same high = cc (here_test m (length x.log) same)
 
 -- at a position past its log's end
 pub prepare_ahead : (n d k : ℕ) (x : Desk) (b : Ballot) (m : ℕ) → length x.log < m
     → on_body n k x d (Prepare b m) ≡ asks_more x k d
 prepare_ahead n d k x b m h =
-    ap (λ t. answered k x d (if t then prepare_here x.stored b m else elsewhere (slice_get x.log m)
-    (length x.log) m)) (elsewhere_test m (length x.log) (λ e. omega (arith, e, h)))
-    ∙ ap (λ o. answered k x d (elsewhere o (length x.log) m))
-    (slice_get_past x.log m (omega (arith, h)))
+    cc (
+      elsewhere_test m (length x.log) (λ e. omega (arith, e, h)),
+      slice_get_past x.log m
+          (omega (arith, h)),
+    )
 
 get_some : (m : ℕ) (xs : List Entry) → m < length xs → (y : Entry) × (slice_get xs m ≡ Some y)
 get_some m [] h = absurd (omega (arith, h))
@@ -104,64 +85,38 @@ get_some (suc m) (x ∷ xs) h = get_some m xs (omega (arith, h))
 pub prepare_past : (n d k : ℕ) (x : Desk) (b : Ballot) (m : ℕ) → m < length x.log
     → (y : Entry) × (on_body n k x d (Prepare b m) ≡ tells x k d m y)
 prepare_past n d k x b m h =
-    let s = get_some m x.log h in (
-      s.0,
-      ap (λ t. answered k x d (if t then prepare_here x.stored b m else elsewhere
-          (slice_get x.log m) (length x.log) m))
-          (elsewhere_test m (length x.log) (λ e. omega (arith, e, h)))
-          ∙ ap (λ o. answered k x d (elsewhere o (length x.log) m)) s.1,
-    )
+    let s = get_some m x.log h in
+    (s.0, cc (elsewhere_test m (length x.log) (λ e. omega (arith, e, h))))
 
 -- desk k at an Accept of a ballot that is not below its promise, at its log's length
 pub voted_at : (n d k : ℕ) (x : Desk) (b : Ballot) (m : ℕ) (e : Entry) → length x.log ≡ m
     → IsAtMost x.stored.promised b → on_body n k x d (Accept b m e) ≡ votes_for x k d b m e
-voted_at n d k x b m e same low =
-    ap (λ t. answered k x d (if t then accept_here x.stored b m e else elsewhere (slice_get x.log m)
-    (length x.log) m)) (here_test m (length x.log) same)
-    ∙ ap (λ t. answered k x d (if t then record { change = None; body = Nack b m x.stored.promised }
-    else record {
-      change = Some (Voted (record { pos = m; ballot = b; entry = e }));
-      body = Accepted b m;
-    })) low
+voted_at n d k x b m e same low = cc (here_test m (length x.log) same)
 
 -- of one below it
 pub outvoted_at : (n d k : ℕ) (x : Desk) (b : Ballot) (m : ℕ) (e : Entry) → length x.log ≡ m
     → IsBelow b x.stored.promised → on_body n k x d (Accept b m e) ≡ refuses x k d b m
-outvoted_at n d k x b m e same high =
-    ap (λ t. answered k x d (if t then accept_here x.stored b m e else elsewhere (slice_get x.log m)
-    (length x.log) m)) (here_test m (length x.log) same)
-    ∙ ap (λ t. answered k x d (if t then record { change = None; body = Nack b m x.stored.promised }
-    else record {
-      change = Some (Voted (record { pos = m; ballot = b; entry = e }));
-      body = Accepted b m;
-    })) high
+outvoted_at n d k x b m e same high = cc (here_test m (length x.log) same)
 
 pub accept_ahead : (n d k : ℕ) (x : Desk) (b : Ballot) (m : ℕ) (e : Entry) → length x.log < m
     → on_body n k x d (Accept b m e) ≡ asks_more x k d
 accept_ahead n d k x b m e h =
-    ap (λ t. answered k x d (if t then accept_here x.stored b m e else elsewhere (slice_get x.log m)
-    (length x.log) m)) (elsewhere_test m (length x.log) (λ s. omega (arith, s, h)))
-    ∙ ap (λ o. answered k x d (elsewhere o (length x.log) m))
-    (slice_get_past x.log m (omega (arith, h)))
+    cc (
+      elsewhere_test m (length x.log) (λ s. omega (arith, s, h)),
+      slice_get_past x.log m
+          (omega (arith, h)),
+    )
 
 pub accept_past : (n d k : ℕ) (x : Desk) (b : Ballot) (m : ℕ) (e : Entry) → m < length x.log
     → (y : Entry) × (on_body n k x d (Accept b m e) ≡ tells x k d m y)
 accept_past n d k x b m e h =
-    let s = get_some m x.log h in (
-      s.0,
-      ap (λ t. answered k x d (if t then accept_here x.stored b m e else elsewhere
-          (slice_get x.log m) (length x.log) m))
-          (elsewhere_test m (length x.log) (λ c. omega (arith, c, h)))
-          ∙ ap (λ o. answered k x d (elsewhere o (length x.log) m)) s.1,
-    )
+    let s = get_some m x.log h in
+    (s.0, cc (elsewhere_test m (length x.log) (λ c. omega (arith, c, h))))
 
 -- an entry for the next position is taken
 pub taken_at : (n d k : ℕ) (x : Desk) (m : ℕ) (e : Entry) → length x.log ≡ m
     → on_body n k x d (Decided m e) ≡ takes_in x k d e
-taken_at n d k x m e same =
-    ap (λ t. if t then takes_in x k d e
-    else (if nat_lt (length x.log) m then asks_more x k d else only_say (passing x) []))
-    (here_test m (length x.log) same)
+taken_at n d k x m e same = cc (here_test m (length x.log) same)
 
 pub drop_some : (m : ℕ) (xs : List Entry) → m < length xs
     → (y : Entry) × (ys : List Entry) × (drop m xs ≡ y ∷ ys)
@@ -175,13 +130,8 @@ pub told_at : (n d k : ℕ) (x : Desk) (m : ℕ) → m < length x.log
     × (on_body n k x d (Behind m) ≡ makes x.seen None None (message k d (Decided m y) ∷ more))
 told_at n d k x m h =
     let s = drop_some m x.log h in
-    let t : nat_lt (length x.log) m ≡ false = grind (arith, nat_tests) in (
-      s.0,
-      told k d (suc m) (take 15 s.1),
-      ap (λ b. if b then asks_more x k d else only_say (passing x)
-          (told k d m (take longest_run (drop m x.log)))) t
-          ∙ ap (λ l. only_say (passing x) (told k d m (take longest_run l))) s.2,
-    )
+    let t : nat_lt (length x.log) m ≡ false = grind (arith, nat_tests) in
+    (s.0, told k d (suc m) (take 15 s.1), cc)
 
 -- desk d at a Promise that it waits for
 pub promise_heard : (n d k : ℕ) (x : Desk) (b : Ballot) (m : ℕ) (heard : List PromisingDesk)
@@ -189,31 +139,16 @@ pub promise_heard : (n d k : ℕ) (x : Desk) (b : Ballot) (m : ℕ) (heard : Lis
     → on_body n d x k (Promise b m v)
     ≡ promises_heard n d (passing x) b m (record { desk = k; vote = v } ∷ heard)
 promise_heard n d k x b m heard v role new =
-    ap (λ r. promise_by_role n d (passing x) r k b m v) role
-    ∙ ap (λ t. if t then (if m == m
-    then (if was_heard heard k then only_say (passing x) [] else more) else only_say (passing x)
-    []) else only_say (passing x) []) (same_test b)
-    ∙ ap (λ t. if t then (if was_heard heard k then only_say (passing x) [] else more) else only_say
-    (passing x) []) (number_test m)
-    ∙ ap (λ t. if t then only_say (passing x) [] else more) new
-  where
-    more : Plan
-    more = promises_heard n d (passing x) b m (record { desk = k; vote = v } ∷ heard)
+    let more : Plan = promises_heard n d (passing x) b m (record { desk = k; vote = v } ∷ heard) in
+    cc (same_test b, number_test m)
 
 -- desk d at an Accepted that it waits for
 pub vote_heard : (n d k : ℕ) (x : Desk) (b : Ballot) (m : ℕ) (e : Entry) (heard : List ℕ)
     → x.role ≡ Proposing b m e heard → has heard k ≡ false
     → on_body n d x k (Accepted b m) ≡ votes_heard n d (passing x) b m e (k ∷ heard)
 vote_heard n d k x b m e heard role new =
-    ap (λ r. accepted_by_role n d (passing x) r k b m) role
-    ∙ ap (λ t. if t then (if m == m then (if has heard k then only_say (passing x) [] else more)
-    else only_say (passing x) []) else only_say (passing x) []) (same_test b)
-    ∙ ap (λ t. if t then (if has heard k then only_say (passing x) [] else more) else only_say
-    (passing x) []) (number_test m)
-    ∙ ap (λ t. if t then only_say (passing x) [] else more) new
-  where
-    more : Plan
-    more = votes_heard n d (passing x) b m e (k ∷ heard)
+    let more : Plan = votes_heard n d (passing x) b m e (k ∷ heard) in
+    cc (same_test b, number_test m)
 
 -- desk d gives its ballot up, and keeps that number in mind
 abbrev pub gives_up : Desk → ℕ → Plan
@@ -222,10 +157,7 @@ gives_up x number = makes (max x.seen number) (Some Idle) None []
 pub nack_heard : (n d k : ℕ) (x : Desk) (b : Ballot) (m : ℕ) (q : Ballot)
     → is_ballot_of x.role b ≡ true → IsBelow b q → on_body n d x k (Nack b m q)
     ≡ gives_up x q.number
-nack_heard n d k x b m q mine high =
-    ap (λ t. if t then (if is_below b q then gives_up x q.number else only_say (passing x) [])
-    else only_say (passing x) []) mine
-    ∙ ap (λ t. if t then gives_up x q.number else only_say (passing x) []) high
+nack_heard n d k x b m q mine high = cc
 
 pub is_own_gathering : (x : Desk) (b : Ballot) (m : ℕ) (heard : List PromisingDesk)
     → x.role ≡ Gathering b m heard → is_ballot_of x.role b ≡ true

@@ -3,25 +3,17 @@ use Rattle.std.proofs.Common.{◌≡◌, ℕ, suc, ◌≤◌, ◌<◌, ◌+◌, 
 use Rattle.std.proofs.Common.{if◌then◌else◌, ◌==◌, nat_lt, List, [], ◌∷◌, inl, inr, Some, None}
 use Rattle.std.proofs.Common.{Result, Ok, Err, length, refl, sym, ap, ◌∙◌, subst, arith}
 use Rattle.std.proofs.lemmas.Bool.Decides.{nat_tests}
-use Rattle.acceptor.specs.declared.ballot.Ballot.{Ballot}
-use Rattle.acceptor.specs.declared.entry.Entry.{Entry}
-use Rattle.acceptor.specs.Entries.{is_same_entry}
+use Rattle.acceptor.specs.declared.{ballot.Ballot.Ballot, entry.Entry.Entry, stored.Stored.Stored}
+use Rattle.acceptor.specs.{Entries.is_same_entry, declared.message.Message.Message}
 use Rattle.acceptor.specs.declared.message.Body.TheVariants.{Prepare, Accept, Nack, Decided}
-use Rattle.acceptor.specs.declared.message.Message.{Message}
-use Rattle.acceptor.specs.declared.stored.Stored.{Stored}
 use Rattle.acceptor.specs.Messages.{message, to_all}
-use Rattle.proposer.specs.declared.fault.Refusal.{Refusal}
-use Rattle.proposer.specs.declared.fault.Refusal.TheVariants.{BallotsSpent}
-use Rattle.proposer.specs.declared.role.Role.{Role}
+use Rattle.proposer.specs.declared.fault.Refusal.{Refusal, TheVariants.BallotsSpent}
+use Rattle.proposer.specs.declared.{role.Role.Role, plan.Plan.Plan}
 use Rattle.proposer.specs.declared.role.Role.TheVariants.{Idle, Gathering, Proposing, Leading}
-use Rattle.proposer.specs.declared.plan.Plan.{Plan}
 use Rattle.proposer.specs.Proposing.{is_full, last_number, gather, new_ballot, ask, ask_next}
 use Rattle.proposer.specs.Proposing.{wants_ballot, tell_length, tick_idle, tick, tick_by_role}
-use Rattle.learner.specs.Chosen.{Has, IsMajority}
-use Rattle.learner.specs.Desks.{Desk, adopt, passing}
-use Rattle.learner.specs.Order.{IsAtMost, IsBelow}
-use Rattle.learner.specs.Steps.{on_body}
-use Rattle.learner.specs.Worlds.{World}
+use Rattle.learner.specs.{Chosen.Has, Chosen.IsMajority, Desks.Desk, Desks.adopt, Desks.passing}
+use Rattle.learner.specs.{Order.IsAtMost, Order.IsBelow, Steps.on_body, Worlds.World}
 use Rattle.learner.proofs.Order.{below_from_less, at_most_from_below}
 use Rattle.progress.proofs.Aims.{Aim, lack, cost, IsReached, Decides, decides_more, carried}
 use Rattle.progress.proofs.Aims.{put_same, put_self, IsPending, pending_new, comes, ticks}
@@ -62,8 +54,7 @@ tick_makes n d x e rest free queue room number = go x.role free
         ap (λ q. if wants_ballot q (length x.log) then new_ballot n d x.stored (length x.log)
         (passing x) else tells_length) queue
         ∙ ap (λ t. if not t then new_ballot n d x.stored (length x.log) (passing x)
-        else tells_length) full
-        ∙ fresh
+        else tells_length) full ∙ fresh
 
     go : (role : Role) → IsFreeIn x.stored.promised role
         → tick_by_role n d x.stored (length x.log) (passing x) role ≡ made
@@ -73,19 +64,15 @@ tick_makes n d x e rest free queue room number = go x.role free
     go (Leading own) h =
         ap (λ t. if t then tick_idle n d x.stored (length x.log) (passing x)
         else (if wants_ballot x.queue (length x.log) then Ok
-        (ask_next n d (length x.log) (passing x) own x.queue) else tells_length)) h
-        ∙ idle
+        (ask_next n d (length x.log) (passing x) own x.queue) else tells_length)) h ∙ idle
 
 -- the Tick of one that leads, and is not outbid
 pub tick_leads : (n d : ℕ) (x : Desk) (b : Ballot) (e : Entry) (rest : List Entry)
-    → x.role ≡ Leading b
-    → IsAtMost x.stored.promised b → x.queue ≡ e ∷ rest → length x.log < 65536
+    → x.role ≡ Leading b → IsAtMost x.stored.promised b → x.queue ≡ e ∷ rest → length x.log < 65536
     → tick n d x.stored (length x.log) (passing x) ≡ Ok (ask n d (passing x) b (length x.log) e)
 tick_leads n d x b e rest role low queue room =
-    ap (λ r. tick_by_role n d x.stored (length x.log) (passing x) r) role
-    ∙ ap (λ t. if t then tick_idle n d x.stored (length x.log) (passing x) else next x.queue) low
-    ∙ ap (λ q. next q) queue
-    ∙ ap (λ t. if not t then Ok (ask n d (passing x) b (length x.log) e) else tells_length) full
+    let full : is_full (length x.log) ≡ false = grind (arith, nat_tests) in
+    cc
   where
     tells_length : Result Plan Refusal
     tells_length = Ok (tell_length n d (length x.log) (passing x))
@@ -94,16 +81,12 @@ tick_leads n d x b e rest role low queue room =
     next q = if wants_ballot q (length x.log) then Ok (ask_next n d (length x.log) (passing x) b q)
         else tells_length
 
-    full : is_full (length x.log) ≡ false
-    full = grind (arith, nat_tests)
-
 -- the greatest number that desk d knows of
 abbrev pub known : Aim → World → ℕ
 known a w = last_number (w.desks a.d).stored (passing (w.desks a.d))
 
 known_under : (a : Aim) (r : ℕ) (w : World) → Fit a r w → known a w + cost a w ≤ r
-known_under a r w h =
-    let t = h.tried in let p = h.promised a.d a.mine in let s = h.seen in omega (arith, t, p, s)
+known_under a r w h = omega (arith, h.tried, h.promised a.d a.mine, h.seen)
 
 -- going from w to v, desk d has made this ballot
 record Made (a : Aim) (r : ℕ) (b : Ballot) (w v : World) : Type 0 where
@@ -119,15 +102,17 @@ record Made (a : Aim) (r : ℕ) (b : Ballot) (w v : World) : Type 0 where
 makes_ballot : (a : Aim) (c r s : ℕ) (w : World) → Fit a r w → IsFree (w.desks a.d) → r ≤ s
     → s ≤ a.number + 2 → known a w + cost a w < s
     → ((v : World) → Made a s (record { number = known a w + 1; desk = a.d }) w v
-    → Decides a (lack a v + c) v)
-    → Decides a (lack a w + suc c) w
+    → Decides a (lack a v + c) v) → Decides a (lack a w + suc c) w
 makes_ballot a c r s w h free less under room next =
-    ticks a c w made h.reached
-    (tick_makes a.n a.d x a.first a.rest free h.queue
+    let x : Desk = w.desks a.d in
+    let b : Ballot =
+    record { number = known a w + 1; desk = a.d } in
+    let made : Plan = gather a.n a.d x.stored (length x.log) (passing x) (known a w + 1) in
+    let v : World = carried w a.d made in
+    let self : v.desks a.d ≡ adopt x made = put_self w.desks a.d (adopt x made) in
+    ticks a c w made h.reached (tick_makes a.n a.d x a.first a.rest free h.queue
     (let l = h.lens a.d a.mine in let o = a.room in omega (arith, l, o))
-    (let o = a.numbers in omega (arith, o, under, room)))
-    (omega arith)
-    (λ reached1. next v
+    (let o = a.numbers in omega (arith, o, under, room))) (omega arith) (λ reached1. next v
     (record {
       fit = fit_tried a s w (known a w + 1) (Some (Gathering b (length x.log) []))
           (to_all a.n a.d (Prepare b (length x.log)))
@@ -140,21 +125,6 @@ makes_ballot a c r s w h free less under room next =
           (omega arith);
       asked = λ k i. all_pending a w made (Prepare b (length x.log)) k refl h.late i;
     }))
-  where
-    x : Desk
-    x = w.desks a.d
-
-    b : Ballot
-    b = record { number = known a w + 1; desk = a.d }
-
-    made : Plan
-    made = gather a.n a.d x.stored (length x.log) (passing x) (known a w + 1)
-
-    v : World
-    v = carried w a.d made
-
-    self : v.desks a.d ≡ adopt x made
-    self = put_self w.desks a.d (adopt x made)
 
 -- it has asked all for votes for its first entry
 pub asks_all : (a : Aim) (r m : ℕ) (C : Type 0) (b : Ballot) (w : World) → Fit a r w
@@ -162,6 +132,7 @@ pub asks_all : (a : Aim) (r m : ℕ) (C : Type 0) (b : Ballot) (w : World) → F
     → ((k : ℕ) → Has a.desks k → IsPending a w (message a.d k (Accept b m a.first)))
     → b.number + cost a w ≤ r → (C → IsClear a b m w) → Asks a r C b m a.first a.desks [] w
 asks_all a r m C b w h role own asked low clear =
+    let most : IsMajority a.n a.desks = a.majority in
     record {
       fit = h;
       role = role;
@@ -176,9 +147,6 @@ asks_all a r m C b w h role own asked low clear =
       low = low;
       clear = clear;
     }
-  where
-    most : IsMajority a.n a.desks
-    most = a.majority
 
 -- a desk that leads, and is not outbid, asks for them
 pub lead_asks : (a : Aim) (c r m : ℕ) (C : Type 0) (b : Ballot) (w : World) → Fit a r w
@@ -187,34 +155,21 @@ pub lead_asks : (a : Aim) (c r m : ℕ) (C : Type 0) (b : Ballot) (w : World) �
     → ((v : World) → Asks a r C b m a.first a.desks [] v → Decides a (lack a v + c) v)
     → Decides a (lack a w + suc c) w
 lead_asks a c r m C b w h role low own number clear next =
-    ticks a c w plan h.reached
-    (tick_leads a.n a.d x b a.first a.rest role low h.queue
+    let x : Desk = w.desks a.d in
+    let plan : Plan = ask a.n a.d (passing x) b m a.first in
+    let v : World = carried w a.d plan in
+    ticks a c w plan h.reached (tick_leads a.n a.d x b a.first a.rest role low h.queue
     (let l = h.lens a.d a.mine in let o = a.room in omega (arith, l, o))
-    ∙ ap (λ l. Ok (ask a.n a.d (passing x) b l a.first)) own)
-    (omega arith)
-    (λ reached1. next v
-    (asks_all a r m C b v
-    (fit_plain a r w a.d x.seen (Some (Proposing b m a.first []))
+    ∙ ap (λ l. Ok (ask a.n a.d (passing x) b l a.first)) own) (omega arith) (λ reached1. next v
+    (asks_all a r m C b v (fit_plain a r w a.d x.seen (Some (Proposing b m a.first []))
     (to_all a.n a.d (Accept b m a.first)) h a.mine reached1 (λ s. h.seen))
     (ap (λ y. y.role) (put_self w.desks a.d (adopt x plan)))
     (ap (λ y. length y.log) (put_self w.desks a.d (adopt x plan)) ∙ own)
     (λ k i. all_pending a w plan (Accept b m a.first) k refl h.late i)
-    (low_more a r b.number w a.d plan number)
-    (λ t j i. let q = clear t j i in (
-      subst (λ (s : Stored). IsAtMost s.promised b)
-          (sym (put_same (λ y. y.stored) w.desks a.d (adopt x plan) refl j)) q.0,
-      subst (λ (l : List Entry). length l ≤ m)
-          (sym (put_same (λ y. y.log) w.desks a.d (adopt x plan) refl j)) q.1,
+    (low_more a r b.number w a.d plan number) (λ t j i. let q = clear t j i in (
+      rw (put_same (λ y. y.stored) w.desks a.d (adopt x plan) refl j) q.0,
+      rw (put_same (λ y. y.log) w.desks a.d (adopt x plan) refl j) q.1,
     ))))
-  where
-    x : Desk
-    x = w.desks a.d
-
-    plan : Plan
-    plan = ask a.n a.d (passing x) b m a.first
-
-    v : World
-    v = carried w a.d plan
 
 -- or it has asked by a Start
 pub leads_or_asks : (a : Aim) (c r m : ℕ) (C : Type 0) (b : Ballot) (w : World) → Fit a r w
@@ -244,8 +199,7 @@ last_ballot a r w h room free lens numbers =
     a.desks + (3 * length a.desks + suc (3 * length a.desks + 0))))
     (lack a w + (9 * length a.desks + 2)) w (omega arith)
     (makes_ballot a (3 * length a.desks + (3 * length a.desks + suc (3 * length a.desks + 0))) r s w
-    h free (let u = h.under in u) (omega arith)
-    (let k = known_under a r w h in omega (arith, k, room))
+    h free (let u = h.under in u) (omega arith) (omega (arith, known_under a r w h, room))
     (λ v made. gather_all a (3 * length a.desks + suc (3 * length a.desks + 0)) s b m asks a.desks
     [] v (gathers v made)))
   where
@@ -277,8 +231,7 @@ last_ballot a r w h room free lens numbers =
         → Decides a (lack a v + (3 * length a.desks + suc (3 * length a.desks + 0))) v
     asks f v p =
         hear_all a (suc (3 * length a.desks + 0)) s (Unit {0}) b m f (λ u y. absurd (y.against tt))
-        (λ u l t. leads f u l) a.desks [] v
-        (record {
+        (λ u l t. leads f u l) a.desks [] v (record {
           fit = p.fit;
           role = p.role;
           own = p.own;
@@ -317,21 +270,14 @@ last_ballot a r w h room free lens numbers =
         low : (k : ℕ) → Has a.desks k → IsBelow (v.desks k).stored.promised b
         low k i =
             subst (λ (p : Ballot). IsBelow p b) (sym (g.promised k))
-            (below_from_less (w.desks k).stored.promised b
-            (inl (let l = numbers k i in omega (arith, l))))
+            (below_from_less (w.desks k).stored.promised b (inl (omega (arith, numbers k i))))
 
 -- one of these is greatest
 pub greatest : (f : ℕ → ℕ) (ks : List ℕ) (d : ℕ) → Has ks d
     → (k : ℕ) × Has ks k × ((j : ℕ) → Has ks j → f j ≤ f k)
 greatest f [] d h = elim h [ ]
-greatest f (x ∷ []) d h = (
-  x,
-  inl refl,
-  λ j i. elim i [
-    | inl e ↦ (let s = ap f e in omega (arith, s))
-    | inr m ↦ elim m [ ]
-  ],
-)
+greatest f (x ∷ []) d h =
+    (x, inl refl, λ j i. elim i [ inl e ↦ (omega (arith, ap f e)) | inr m ↦ elim m [ ] ])
 greatest f (x ∷ y ∷ ys) d h = go (greatest f (y ∷ ys) y (inl refl))
   where
     go : (k : ℕ) × Has (y ∷ ys) k × ((j : ℕ) → Has (y ∷ ys) j → f j ≤ f k)
@@ -367,9 +313,12 @@ learns : (a : Aim) (r m k : ℕ) (b : Ballot) (w : World) → Fit a r w → r + 
     → ((j : ℕ) → Has a.desks j → (w.desks j).stored.promised.number
     ≤ (w.desks k).stored.promised.number)
     → b.number < (w.desks k).stored.promised.number → IsPending a w (message a.d k (Prepare b m))
-    → length (w.desks k).log ≡ m
-    → Decides a (lack a w + suc (suc (9 * length a.desks + 2))) w
+    → length (w.desks k).log ≡ m → Decides a (lack a w + suc (suc (9 * length a.desks + 2))) w
 learns a r m k b w h room role own lens i most high asked here =
+    let above : IsBelow b q = below_from_less b q (inl high) in
+    let self : v.desks a.d ≡ adopt (u.desks a.d) (gives_up (u.desks a.d) q.number) = put_self
+    u.desks a.d (adopt (u.desks a.d) (gives_up (u.desks a.d) q.number)) in
+    let learnt : q.number ≤ known a v = rw self (omega arith) in
     comes a (suc (9 * length a.desks + 2)) w (message a.d k (Prepare b m)) (refuses x k a.d b m)
     h.reached a.mine i asked
     (refused_at a.n a.d k x b m here (at_most_from_below b q above)) (omega arith)
@@ -378,8 +327,7 @@ learns a r m k b w h room role own lens i most high asked here =
     (pending_new a w k (refuses x k a.d b m) 0 (message k a.d (Nack b m q)) h.late refl)
     (nack_heard a.n a.d k (u.desks a.d) b m q
     (is_own_gathering (u.desks a.d) b m [] (ap (λ z. z.role) (same a.d) ∙ role)) above)
-    (omega arith)
-    (λ reached2. last_ballot a r v (fit2 (fit1 reached1) reached2) room
+    (omega arith) (λ reached2. last_ballot a r v (fit2 (fit1 reached1) reached2) room
     (free_idle (v.desks a.d) (ap (λ z. z.role) self))
     (λ j p. subst (λ (l : List Entry). length l ≤ length (v.desks a.d).log) (sym (logs j))
     (let l = ap (λ l. length l) (logs a.d) in let o = lens j p in omega (arith, l, o, own)))
@@ -391,9 +339,6 @@ learns a r m k b w h room role own lens i most high asked here =
 
     q : Ballot
     q = x.stored.promised
-
-    above : IsBelow b q
-    above = below_from_less b q (inl high)
 
     ms : List Message
     ms = message k a.d (Nack b m q) ∷ []
@@ -407,20 +352,11 @@ learns a r m k b w h room role own lens i most high asked here =
     v : World
     v = carried u a.d (gives_up (u.desks a.d) q.number)
 
-    self : v.desks a.d ≡ adopt (u.desks a.d) (gives_up (u.desks a.d) q.number)
-    self = put_self u.desks a.d (adopt (u.desks a.d) (gives_up (u.desks a.d) q.number))
-
     logs : (j : ℕ) → (v.desks j).log ≡ (w.desks j).log
-    logs j = put_same (λ z. z.log) u.desks a.d
-        (adopt (u.desks a.d) (gives_up (u.desks a.d) q.number)) refl j ∙ ap (λ z. z.log) (same j)
+    logs j = put_same (λ z. z.log) u.desks _ _ refl j ∙ ap (λ z. z.log) (same j)
 
     stored : (j : ℕ) → (v.desks j).stored ≡ (w.desks j).stored
-    stored j = put_same (λ z. z.stored) u.desks a.d
-        (adopt (u.desks a.d) (gives_up (u.desks a.d) q.number)) refl j ∙ ap (λ z. z.stored) (same j)
-
-    learnt : q.number ≤ known a v
-    learnt = subst (λ (y : Desk). q.number ≤ last_number y.stored (passing y)) (sym self)
-        (omega arith)
+    stored j = put_same (λ z. z.stored) u.desks _ _ refl j ∙ ap (λ z. z.stored) (same j)
 
     fit1 : IsReached a.n u → Fit a r u
     fit1 reached1 = fit_plain a r w k x.seen None ms h i reached1 (seen_at a r w k h)
@@ -473,17 +409,13 @@ longest_decides a r w h room free lens =
             → Decides a (lack a v + suc (suc (suc all))) v
         refused v made high =
             levels a (suc all) r k m v (Prepare b m) g.1 made.fit (own v made) (lens1 v made k g.1)
-            (made.asked k g.1)
-            (λ x less. prepare_ahead a.n a.d k x b m less)
+            (made.asked k g.1) (λ x less. prepare_ahead a.n a.d k x b m less)
             (λ u l. learns a r m k b u l.fit room (ap (λ z. z.role) l.own ∙ made.role)
-            (ap (λ z. length z.log) l.own ∙ own v made)
-            (λ j p. lens2 v made u l j p) g.1
+            (ap (λ z. length z.log) l.own ∙ own v made) (λ j p. lens2 v made u l j p) g.1
             (λ j p. subst (λ (s : Ballot). s.number ≤ (u.desks k).stored.promised.number)
             (sym (l.promised j))
             (subst (λ (s : Ballot). (v.desks j).stored.promised.number ≤ s.number)
-            (sym (l.promised k))
-            (subst (λ (s : Ballot). (v.desks j).stored.promised.number ≤ s.number)
-            (sym (made.promised k)) (most1 v made j p))))
+            (sym (l.promised k)) (rw (made.promised k) (most1 v made j p))))
             (subst (λ (s : Ballot). known a w + 1 < s.number) (sym (l.promised k))
             (subst (λ (s : Ballot). known a w + 1 < s.number) (sym (made.promised k)) high))
             (l.sent (message a.d k (Prepare b m)) (made.asked k g.1)) l.here)
@@ -495,16 +427,14 @@ longest_decides a r w h room free lens =
                 pick : (t : Bool) → (k == j) ≡ t → length (u.desks j).log ≤ m
                 pick true t =
                     let s : k ≡ j = grind (arith, nat_tests) in
-                    let e = ap (λ z. length (u.desks z).log) s in
-                    let o = l.here in omega (arith, e, o)
+                    omega (arith, ap (λ z. length (u.desks z).log) s, l.here)
                 pick false t =
                     let e = ap (λ z. length z.log) (l.others j (λ s. grind (arith, nat_tests))) in
                     let o = lens1 v made j p in omega (arith, e, o)
 
         reached : (v : World) → Made a r b w v → q ≤ known a w + 1 → Decides a (lack a v + all) v
         reached v made near =
-            last_ballot a r v made.fit room
-            (subst (λ (y : Role). IsFreeIn (v.desks a.d).stored.promised y) (sym made.role) tt)
+            last_ballot a r v made.fit room (rw made.role tt)
             (λ j p. let o = lens1 v made j p in let e = own v made in omega (arith, o, e))
             (λ j p. let o = most1 v made j p in let e = made.known in omega (arith, o, e, near))
 
@@ -512,23 +442,18 @@ longest_decides a r w h room free lens =
             → Decides a (lack a v + suc (suc (suc all))) v
         tried v made true s = refused v made (grind (arith, nat_tests))
         tried v made false s =
-            decides_more a (lack a v + all) (lack a v + suc (suc (suc all))) v (omega arith)
-            (reached v made (grind (arith, nat_tests)))
+            decides_more a _ _ v (omega arith) (reached v made (grind (arith, nat_tests)))
 
         knows : (t : Bool) → nat_lt (known a w) q ≡ t
             → Decides a (lack a w + (9 * length a.desks + 6)) w
         knows false t =
-            decides_more a (lack a w + all) (lack a w + (9 * length a.desks + 6)) w (omega arith)
-            (last_ballot a r w h room free lens
+            decides_more a _ _ w (omega arith) (last_ballot a r w h room free lens
             (λ j p. let o = g.2 j p in let s : q ≤ known a w = grind (arith, nat_tests) in omega
             (arith, o, s)))
         knows true t =
-            decides_more a (lack a w + suc (suc (suc (suc all))))
-            (lack a w + (9 * length a.desks + 6)) w (omega arith)
-            (makes_ballot a (suc (suc (suc all))) r r w h free (omega arith) h.under
+            decides_more a _ _ w (omega arith) (makes_ballot a _ r r w h free (omega arith) h.under
             (let l = h.promised k g.1 in let s : known a w < q = grind (arith, nat_tests) in omega
-            (arith, l, s))
-            (λ v made. tried v made (nat_lt (known a w + 1) q) refl))
+            (arith, l, s)) (λ v made. tried v made (nat_lt (known a w + 1) q) refl))
 
 -- from every world in which desk d is free
 pub free_decides : (a : Aim) (r : ℕ) (w : World) → Fit a r w → r ≤ a.number → IsFree (w.desks a.d)
@@ -557,9 +482,7 @@ free_decides a r w h under free = go (greatest (λ j. length (w.desks j).log) a.
 
         caught_up : (v : World) → ((j : ℕ) → (v.desks j).log ≡ (w.desks j).log) → (u : World)
             → Taken a (suc r) k len v u → Decides a (lack a u + all) u
-        caught_up v logs u t =
-            longest_decides a (suc r) u t.fit (omega (arith, under))
-            t.free lens
+        caught_up v logs u t = longest_decides a (suc r) u t.fit (omega (arith, under)) t.free lens
           where
             lens : (j : ℕ) → Has a.desks j → length (u.desks j).log ≤ length (u.desks a.d).log
             lens j p = pick (a.d == j) refl
@@ -570,16 +493,23 @@ free_decides a r w h under free = go (greatest (λ j. length (w.desks j).log) a.
                     let i : a.d ≡ j = grind (arith, nat_tests) in
                     let e = ap (λ z. length (u.desks z).log) i in omega (arith, e)
                 pick false s =
-                    let e = ap (λ z. length z.log) (t.others j (λ i. grind (arith, nat_tests))) in
-                    let l = ap (λ l. length l) (logs j) in
-                    let o = g.2 j p in
-                    let f = t.here in omega (arith, e, l, o, f)
+                    omega (
+                      arith,
+                      ap (λ z. length z.log)
+                          (t.others j (λ i. grind (arith, nat_tests))),
+                      ap (λ l. length l) (logs j),
+                      g.2 j
+                          p,
+                      t.here,
+                    )
 
         asks : m < len → (v : World) → Made a (suc r) b w v
             → (y : Entry) × (on_body a.n k (v.desks k) a.d (Prepare b m) ≡ tells (v.desks k) k a.d m
-            y)
-            → Decides a (lack a v + suc all) v
+            y) → Decides a (lack a v + suc all) v
         asks less v made t =
+            let f : Fit a (suc r) v = made.fit in
+            let ms : List Message = message k a.d (Decided m t.0) ∷ [] in
+            let u : World = carried v k (tells (v.desks k) k a.d m t.0) in
             comes a all v (message a.d k (Prepare b m)) (tells (v.desks k) k a.d m t.0) f.reached
             a.mine g.1 (made.asked k g.1) t.1 (omega arith)
             (λ reached1. pull a all (suc r) k len g.1 (len - suc m) u m t.0
@@ -591,30 +521,17 @@ free_decides a r w h under free = go (greatest (λ j. length (w.desks j).log) a.
             (pending_new a v k (tells (v.desks k) k a.d m t.0) 0 (message k a.d (Decided m t.0))
             f.late refl)
             (λ z q. caught_up u (λ j. ap (λ y. y.log) (desks_same v k ms j) ∙ made.logs j) z q))
-          where
-            f : Fit a (suc r) v
-            f = made.fit
-
-            ms : List Message
-            ms = message k a.d (Decided m t.0) ∷ []
-
-            u : World
-            u = carried v k (tells (v.desks k) k a.d m t.0)
 
         longer : (t : Bool) → nat_lt m len ≡ t → Decides a (lack a w + (9 * length a.desks + 8)) w
         longer false t =
-            decides_more a (lack a w + all) (lack a w + (9 * length a.desks + 8)) w (omega arith)
-            (longest_decides a r w h (omega (arith, under)) free
+            decides_more a _ _ w (omega arith) (longest_decides a r w h (omega (arith, under)) free
             (λ j p. let o = g.2 j p in let s : len ≤ m = grind (arith, nat_tests) in omega
             (arith, o, s)))
         longer true t =
+            let less : m < len = grind (arith, nat_tests) in
             decides_more a (lack a w + suc (suc all)) (lack a w + (9 * length a.desks + 8)) w
             (omega arith)
             (makes_ballot a (suc all) r (suc r) w h free (omega arith) (omega (arith, under))
-            (let o = known_under a r w h in omega (arith, o))
-            (λ v made. asks less v made
+            (let o = known_under a r w h in omega (arith, o)) (λ v made. asks less v made
             (prepare_past a.n a.d k (v.desks k) b m
             (let l = ap (λ l. length l) (made.logs k) in let s = less in omega (arith, l, s)))))
-          where
-            less : m < len
-            less = grind (arith, nat_tests)

@@ -1,22 +1,14 @@
 -- What holds of the world on the way to the aim, and that what desks do keeps it.
-use Rattle.std.proofs.Common.{◌≡◌, ℕ, ◌≤◌, ◌+◌, true, false, List, [], ◌∷◌, ◌++◌, ◌⊎◌, Option, Some}
-use Rattle.std.proofs.Common.{None, length, slice_get, refl, sym, ap, ◌∙◌, subst, arith}
-use Rattle.std.proofs.Common.{length-append}
-use Rattle.std.proofs.lemmas.Bool.Decides.{nat_tests}
-use Rattle.std.proofs.lemmas.Slice.Eq.{bytes_eq-Decides}
-use Rattle.acceptor.specs.declared.ballot.Ballot.{Ballot}
-use Rattle.acceptor.specs.declared.entry.Entry.{Entry}
+use Rattle.std.proofs.Common.{◌≡◌, ℕ, [], None, length, slice_get, refl, sym, ap, ◌∙◌, subst, arith}
+use Rattle.std.proofs.Common.{◌≤◌, ◌+◌, true, false, List, ◌∷◌, ◌++◌, ◌⊎◌, Option, length-append}
+use Rattle.std.proofs.{Common.Some, lemmas.Bool.Decides.nat_tests, lemmas.Slice.Eq.bytes_eq-Decides}
+use Rattle.acceptor.specs.declared.{ballot.Ballot.Ballot, entry.Entry.Entry}
 use Rattle.acceptor.specs.Entries.{is_same_entry}
-use Rattle.acceptor.specs.declared.message.Message.{Message}
-use Rattle.acceptor.specs.declared.stored.Vote.{Vote}
-use Rattle.acceptor.specs.declared.stored.Change.{Change}
+use Rattle.acceptor.specs.declared.{message.Message.Message, stored.Vote.Vote, stored.Change.Change}
 use Rattle.acceptor.specs.declared.stored.Change.TheVariants.{Promised, Voted, Tried}
-use Rattle.proposer.specs.declared.role.Role.{Role}
-use Rattle.proposer.specs.declared.plan.Plan.{Plan}
+use Rattle.proposer.specs.declared.{role.Role.Role, plan.Plan.Plan}
 use Rattle.proposer.specs.Plans.{queue_after, begins_with, append}
-use Rattle.learner.specs.Chosen.{Has}
-use Rattle.learner.specs.Desks.{Desk, adopt, passing}
-use Rattle.learner.specs.Worlds.{World}
+use Rattle.learner.specs.{Chosen.Has, Desks.Desk, Desks.adopt, Desks.passing, Worlds.World}
 use Rattle.progress.proofs.Aims.{Aim, IsReached, cost, cost_less, IsDecided, carried, put_at}
 use Rattle.progress.proofs.Aims.{put_self, late_more, logs_grow}
 
@@ -68,6 +60,9 @@ pub fit_goes : (a : Aim) (r : ℕ) (w : World) (k : ℕ) (p : Plan) → Fit a r 
     → IsReached a.n (carried w k p) → Keeps a r (cost a w) k (w.desks k) (adopt (w.desks k) p)
     → Fit a r (carried w k p)
 fit_goes a r w k p h reached g =
+    let y : Desk = adopt (w.desks k) p in
+    let v : World = carried w k p in
+    let cheap : cost a v ≤ cost a w = cost_less a v w (logs_grow w k p a.d) in
     record {
       reached = reached;
       late = late_more a w k p h.late;
@@ -90,15 +85,6 @@ fit_goes a r w k p h reached g =
           (let l = h.seen in let c = cheap in omega (arith, l, c));
       under = h.under;
     }
-  where
-    y : Desk
-    y = adopt (w.desks k) p
-
-    v : World
-    v = carried w k p
-
-    cheap : cost a v ≤ cost a w
-    cheap = cost_less a v w (logs_grow w k p a.d)
 
 pub queue_kept : (q : List Entry) → queue_after q false ≡ q
 queue_kept [] = refl
@@ -114,8 +100,7 @@ pub fit_plain : (a : Aim) (r : ℕ) (w : World) (k seen : ℕ) (role : Option Ro
     → Fit a r w → Has a.desks k → IsReached a.n (carried w k (makes seen role None ms))
     → (k ≡ a.d → seen + cost a w ≤ r) → Fit a r (carried w k (makes seen role None ms))
 fit_plain a r w k seen role ms h i reached low =
-    fit_goes a r w k (makes seen role None ms) h reached
-    (record {
+    fit_goes a r w k (makes seen role None ms) h reached (record {
       queue = λ s. queue_kept (w.desks k).queue;
       longer = omega arith;
       lens = h.lens k i;
@@ -137,8 +122,7 @@ pub fit_promised : (a : Aim) (r : ℕ) (w : World) (k : ℕ) (b : Ballot) (ms : 
     → b.number + cost a w ≤ r
     → Fit a r (carried w k (makes (w.desks k).seen None (Some (Promised b)) ms))
 fit_promised a r w k b ms h i reached low =
-    fit_goes a r w k (makes (w.desks k).seen None (Some (Promised b)) ms) h reached
-    (record {
+    fit_goes a r w k (makes (w.desks k).seen None (Some (Promised b)) ms) h reached (record {
       queue = λ s. queue_kept (w.desks k).queue;
       longer = omega arith;
       lens = h.lens k i;
@@ -154,8 +138,7 @@ pub fit_voted : (a : Aim) (r : ℕ) (w : World) (k : ℕ) (v : Vote) (ms : List 
     → v.ballot.number + cost a w ≤ r → (v.pos ≤ a.old) ⊎ (v.entry ≡ a.first)
     → Fit a r (carried w k (makes (w.desks k).seen None (Some (Voted v)) ms))
 fit_voted a r w k v ms h i reached low old =
-    fit_goes a r w k (makes (w.desks k).seen None (Some (Voted v)) ms) h reached
-    (record {
+    fit_goes a r w k (makes (w.desks k).seen None (Some (Voted v)) ms) h reached (record {
       queue = λ s. queue_kept (w.desks k).queue;
       longer = omega arith;
       lens = h.lens k i;
@@ -168,20 +151,17 @@ fit_voted a r w k v ms h i reached low old =
 -- desk d makes a ballot
 pub fit_tried : (a : Aim) (r : ℕ) (w : World) (number : ℕ) (role : Option Role) (ms : List Message)
     → Fit a r w → IsReached a.n (carried w a.d
-    (makes (w.desks a.d).seen role (Some (Tried number)) ms))
-    → number + cost a w ≤ r
+    (makes (w.desks a.d).seen role (Some (Tried number)) ms)) → number + cost a w ≤ r
     → Fit a r (carried w a.d (makes (w.desks a.d).seen role (Some (Tried number)) ms))
 fit_tried a r w number role ms h reached low =
-    fit_goes a r w a.d (makes (w.desks a.d).seen role (Some (Tried number)) ms) h reached
-    (record {
-      queue = λ s. queue_kept (w.desks a.d).queue;
-      longer = omega arith;
-      lens = h.lens a.d a.mine;
-      votes = h.votes a.d a.mine;
-      promised = h.promised a.d a.mine;
-      tried = λ s. low;
-      seen = λ s. h.seen;
-    })
+    fit_goes a r w a.d (makes (w.desks a.d).seen role (Some (Tried number)) ms) h reached (search (
+      queue_kept (w.desks a.d).queue,
+      h.lens a.d a.mine,
+      h.votes a.d a.mine,
+      h.promised a.d
+          a.mine,
+      arith,
+    ))
 
 -- desk k appends an entry, which is not the first of desk d's queue
 pub fit_appended : (a : Aim) (r : ℕ) (w : World) (k : ℕ) (c : Entry) (role : Role)
@@ -190,8 +170,7 @@ pub fit_appended : (a : Aim) (r : ℕ) (w : World) (k : ℕ) (c : Entry) (role :
     → length (w.desks k).log ≤ a.old → (k ≡ a.d → is_same_entry a.first c ≡ false)
     → Fit a r (carried w k (append (passing (w.desks k)) c role ms))
 fit_appended a r w k c role ms h i reached low other =
-    fit_goes a r w k (append (passing (w.desks k)) c role ms) h reached
-    (record {
+    fit_goes a r w k (append (passing (w.desks k)) c role ms) h reached (record {
       queue = kept;
       longer = let l = length-append (w.desks k).log (c ∷ []) in omega (arith, l);
       lens = let l = length-append (w.desks k).log (c ∷ []) in omega (arith, l, low);
@@ -205,8 +184,7 @@ fit_appended a r w k c role ms h i reached low other =
         (begins_with (w.desks k).queue c) ≡ (w.desks k).queue
     kept s =
         let q : (w.desks k).queue ≡ a.first ∷ a.rest = ap (λ j. (w.desks j).queue) s ∙ h.queue in
-        ap (λ l. queue_after l (begins_with l c)) q
-        ∙ ap (λ t. queue_after (a.first ∷ a.rest) t) (other s) ∙ sym q
+        cc (other s)
 
 entry_ext : (a b : Entry) → a.id ≡ b.id → a.text ≡ b.text → a ≡ b
 entry_ext a b i t = λ k. record { id = i k; text = t k }
@@ -227,22 +205,25 @@ pub fit_decided : (a : Aim) (r : ℕ) (w : World) (c : Entry) (role : Role) (ms 
     → is_same_entry a.first c ≡ true
     → IsDecided a (carried w a.d (append (passing (w.desks a.d)) c role ms))
 fit_decided a r w c role ms h reached same =
+    let x : Desk = w.desks a.d in
+    let p : Plan = append (passing x) c role ms in
+    let y : Desk = adopt x p in
+    let self : (carried w a.d p).desks a.d ≡ y = put_self w.desks a.d y in
+    let v : World = carried w a.d p in
+    let cheap : cost a v ≤ cost a w = cost_less a v w (logs_grow w a.d p a.d) in
+    let under : r ≤ a.number + 2 = h.under in
     record {
       reached = reached;
       late = late_more a w a.d p h.late;
-      queue = ap (λ z. z.queue) self ∙ ap (λ q. queue_after q (begins_with q c)) h.queue
-          ∙ ap (λ t. queue_after (a.first ∷ a.rest) t) same;
+      queue = cc;
       at = length x.log;
       past = h.past;
-      entry = ap (λ z. slice_get z.log (length x.log)) self ∙ last_get x.log c
-          ∙ ap (λ z. Some z) (sym (same_entry a.first c same));
+      entry = cc (last_get x.log c, same_entry a.first c same);
       lens = λ j i. put_at (λ z. length z.log ≤ a.old + 2) w.desks a.d y j
           (λ s. let l = length-append x.log (c ∷ []) in let o = h.lens a.d a.mine in omega
-          (arith, l, o))
-          (let o = h.lens j i in omega (arith, o));
+          (arith, l, o)) (let o = h.lens j i in omega (arith, o));
       promised = λ j i. put_at (λ z. z.stored.promised.number + cost a v ≤ a.number + 2) w.desks a.d
-          y j
-          (λ s. let o = h.promised a.d a.mine in let c = cheap in omega (arith, o, c, under))
+          y j (λ s. let o = h.promised a.d a.mine in let c = cheap in omega (arith, o, c, under))
           (let o = h.promised j i in let c = cheap in omega (arith, o, c, under));
       tried = put_at (λ z. z.stored.tried + cost a v ≤ a.number + 2) w.desks a.d y a.d
           (λ s. let o = h.tried in let c = cheap in omega (arith, o, c, under))
@@ -251,24 +232,3 @@ fit_decided a r w c role ms h reached same =
           (λ s. let o = h.seen in let c = cheap in omega (arith, o, c, under))
           (let o = h.seen in let c = cheap in omega (arith, o, c, under));
     }
-  where
-    x : Desk
-    x = w.desks a.d
-
-    p : Plan
-    p = append (passing x) c role ms
-
-    y : Desk
-    y = adopt x p
-
-    self : (carried w a.d p).desks a.d ≡ y
-    self = put_self w.desks a.d y
-
-    v : World
-    v = carried w a.d p
-
-    cheap : cost a v ≤ cost a w
-    cheap = cost_less a v w (logs_grow w a.d p a.d)
-
-    under : r ≤ a.number + 2
-    under = h.under

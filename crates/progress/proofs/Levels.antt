@@ -1,28 +1,18 @@
 -- Logs are brought to one length, entry by entry: a Behind, and the Decided that answers it.
 use Rattle.std.proofs.Common.{◌≡◌, ℕ, zero, suc, ◌≤◌, ◌<◌, ◌+◌, ◌-◌, Bool, true, false, nat_lt}
 use Rattle.std.proofs.Common.{List, [], ◌∷◌, None, length, refl, sym, ap, ◌∙◌, subst, arith}
-use Rattle.std.proofs.Common.{length-append}
-use Rattle.std.proofs.lemmas.Bool.Decides.{nat_tests}
-use Rattle.acceptor.specs.declared.entry.Entry.{Entry}
-use Rattle.acceptor.specs.Entries.{is_same_entry}
-use Rattle.acceptor.specs.declared.message.Body.{Body}
+use Rattle.std.proofs.{Common.length-append, lemmas.Bool.Decides.nat_tests}
+use Rattle.acceptor.specs.declared.{entry.Entry.Entry, message.Body.Body, message.Message.Message}
+use Rattle.acceptor.specs.{Entries.is_same_entry, Messages.message}
 use Rattle.acceptor.specs.declared.message.Body.TheVariants.{Behind, Decided}
-use Rattle.acceptor.specs.declared.message.Message.{Message}
-use Rattle.acceptor.specs.Messages.{message}
-use Rattle.proposer.specs.declared.role.Role.TheVariants.{Idle}
-use Rattle.proposer.specs.declared.plan.Plan.{Plan}
-use Rattle.learner.specs.Chosen.{Has}
-use Rattle.learner.specs.Desks.{Desk, adopt}
-use Rattle.learner.specs.Steps.{on_body}
-use Rattle.learner.specs.Worlds.{World}
+use Rattle.proposer.specs.declared.{role.Role.TheVariants.Idle, plan.Plan.Plan}
+use Rattle.learner.specs.{Chosen.Has, Desks.Desk, Desks.adopt, Steps.on_body, Worlds.World}
 use Rattle.progress.proofs.Aims.{Aim, lack, IsReached, Decides, decides_here, decides_more, carried}
-use Rattle.progress.proofs.Aims.{put_other, put_same, put_self, IsPending, pending_more}
-use Rattle.progress.proofs.Aims.{pending_new, comes}
+use Rattle.progress.proofs.Aims.{put_other, put_same, put_self, IsPending, pending_more, comes}
+use Rattle.progress.proofs.{Aims.pending_new, Fits.fit_decided, Starting.decided_started}
 use Rattle.progress.proofs.Fits.{Fit, makes, queue_kept, seen_at, fit_plain, fit_appended}
-use Rattle.progress.proofs.Fits.{fit_decided}
 use Rattle.progress.proofs.Answers.{asks_more, takes_in, told_at}
 use Rattle.progress.proofs.Starting.{IsFree, Started, takes, fit_started, start_paid}
-use Rattle.progress.proofs.Starting.{decided_started}
 
 -- what only says something leaves the desk as it is
 pub said_same : (x : Desk) (ms : List Message) → adopt x (makes x.seen None None ms) ≡ x
@@ -57,8 +47,7 @@ push_one : (a : Aim) (c r k len : ℕ) (w : World) → Has a.desks k → Fit a r
     → IsPending a w (message k a.d (Behind (length (w.desks k).log)))
     → ((v : World) → Level a r k (suc (length (w.desks k).log)) w v
     → IsPending a v (message k a.d (Behind (length (v.desks k).log)))
-    → Decides a (lack a v + suc c) v)
-    → Decides a (lack a w + suc c) w
+    → Decides a (lack a v + suc c) v) → Decides a (lack a w + suc c) w
 push_one a c r k len w i h own less asked next = telling
     (told_at a.n k a.d (w.desks a.d) (length (w.desks k).log) (omega (arith, own, less)))
   where
@@ -67,15 +56,13 @@ push_one a c r k len w i h own less asked next = telling
 
     telling : (y : Entry) × (more : List Message)
         × (on_body a.n a.d (w.desks a.d) k (Behind m) ≡ makes (w.desks a.d).seen None None
-        (message a.d k (Decided m y) ∷ more))
-        → Decides a (lack a w + suc c) w
+        (message a.d k (Decided m y) ∷ more)) → Decides a (lack a w + suc c) w
     telling t =
         comes a c w (message k a.d (Behind m)) p h.reached i a.mine asked t.2 (omega arith)
         (λ reached1. takes a c u k a.d m t.0 reached1 a.mine i
         (pending_new a w a.d p 0 (message a.d k (Decided m t.0)) h.late refl) same
         (let s = same in let l = h.lens a.d a.mine in let z = a.tall in omega
-        (arith, s, l, z, own, less))
-        (λ v s free. next v (level reached1 v s)
+        (arith, s, l, z, own, less)) (λ v s free. next v (level reached1 v s)
         (subst (λ (l : ℕ). IsPending a v (message k a.d (Behind l)))
         (sym (ap (λ z. length z) (s.logs k) ∙ long))
         (s.sent (message k a.d (Behind (length (u.desks k).log + 1)))
@@ -119,8 +106,7 @@ push_one a c r k len w i h own less asked next = telling
                   (message k a.d (Behind (length (u.desks k).log + 1)) ∷ []) (fit1 reached1) i
                   s.first
                   (let l = h.lens a.d a.mine in let e = same in omega (arith, l, e, own, less))
-                  (λ e. absurd (apart e)))
-                  (λ e. absurd (apart e));
+                  (λ e. absurd (apart e))) (λ e. absurd (apart e));
               own = s.others a.d apart ∙ put_other u.desks k (adopt (u.desks k) taken) a.d apart
                   ∙ desks_same w a.d ms a.d;
               here = ap (λ z. length z) (s.logs k) ∙ long ∙ (let e = same in omega (arith, e));
@@ -160,16 +146,7 @@ push a c r k len i (suc gap) w h own short asked next =
     (λ u g. next u (level_on a r k (suc (length (w.desks k).log)) len w v u l g)))
 
 level_here : (a : Aim) (r k : ℕ) (w : World) → Fit a r w → Level a r k (length (w.desks k).log) w w
-level_here a r k w h =
-    record {
-      fit = h;
-      own = refl;
-      here = refl;
-      others = λ j ne. refl;
-      promised = λ j. refl;
-      sent = λ m
-          z. z;
-    }
+level_here a r k w h = search
 
 -- desk k is at a position past its log's end, and says so; then desk d brings it there
 pub levels : (a : Aim) (c r k len : ℕ) (w : World) (body : Body) → Has a.desks k → Fit a r w
@@ -184,21 +161,19 @@ levels a c r k len w body i h own under asked ahead next = go (nat_lt (length (w
     go : (t : Bool) → nat_lt (length (w.desks k).log) len ≡ t → Decides a (lack a w + suc (suc c)) w
     go false t =
         decides_more a (lack a w + suc c) (lack a w + suc (suc c)) w (omega arith)
-        (next w (subst (λ (z : ℕ). Level a r k z w w)
-        (let g : length (w.desks k).log ≡ len
+        (next w (subst (λ (z : ℕ). Level a r k z w w) (let g : length (w.desks k).log ≡ len
         = (let q : len ≤ length (w.desks k).log = grind (arith, nat_tests) in omega
         (arith, q, under)) in g) (level_here a r k w h)))
     go true t =
+        let less : length (w.desks k).log < len = grind (arith, nat_tests) in
         comes a (suc c) w (message a.d k body) p h.reached a.mine i asked (ahead (w.desks k) less)
         (omega arith)
         (λ reached1. push a c r k len i (len - suc (length (w.desks k).log)) u (fit1 reached1)
         (ap (λ z. length z.log) (same a.d) ∙ own)
         (let s = ap (λ z. length z.log) (same k) in let l = less in omega (arith, s, l))
-        (subst (λ (l : ℕ). IsPending a u (message k a.d (Behind l)))
-        (sym (ap (λ z. length z.log) (same k)))
+        (rw (ap (λ z. length z.log) (same k))
         (pending_new a w k p 0 (message k a.d (Behind (length (w.desks k).log))) h.late refl))
-        (λ v g. next v
-        (record {
+        (λ v g. next v (record {
           fit = g.fit;
           own = g.own ∙ same a.d;
           here = g.here;
@@ -207,9 +182,6 @@ levels a c r k len w body i h own under asked ahead next = go (nat_lt (length (w
           sent = λ m z. g.sent m (pending_more a w k p m z);
         })))
       where
-        less : length (w.desks k).log < len
-        less = grind (arith, nat_tests)
-
         ms : List Message
         ms = message k a.d (Behind (length (w.desks k).log)) ∷ []
 
@@ -236,8 +208,7 @@ pub record Taken (a : Aim) (r k len : ℕ) (w v : World) : Type 0 where
 pub take_one : (a : Aim) (c r k m : ℕ) (w : World) (e : Entry) → Has a.desks k → Fit a r w
     → length (w.desks a.d).log ≡ m → m ≤ a.old → IsPending a w (message k a.d (Decided m e))
     → ((v : World) → Taken a r k (suc m) w v → IsPending a v (message a.d k (Behind (suc m)))
-    → Decides a (lack a v + suc c) v)
-    → Decides a (lack a w + c) w
+    → Decides a (lack a v + suc c) v) → Decides a (lack a w + c) w
 take_one a c r k m w e i h own low told next =
     takes a c w a.d k m e h.reached i a.mine told own short
     (λ v s free. go (is_same_entry a.first e) refl v s free)
@@ -268,17 +239,14 @@ take_one a c r k m w e i h own low told next =
         (decided_started a u v s (fit_decided a r w e Idle ms h s.first t)
         (let l = start_paid a r w e Idle ms v h short s in let y = h.under in omega (arith, l, y)))
     go false t v s free =
-        next v
-        (record {
+        next v (record {
           fit = fit_started a r a.d u v s
-              (fit_appended a r w a.d e Idle ms h a.mine s.first (omega (arith, own, low))
-              (λ q. t))
+              (fit_appended a r w a.d e Idle ms h a.mine s.first (omega (arith, own, low)) (λ q. t))
               (λ q. start_paid a r w e Idle ms v h short s);
           free = free;
           here = ap (λ z. length z) (s.logs a.d) ∙ long;
           others = λ j ne. s.others j ne ∙ put_other w.desks a.d (adopt x taken) j ne;
-        })
-        (s.sent (message a.d k (Behind (suc m)))
+        }) (s.sent (message a.d k (Behind (suc m)))
         (subst (λ (l : ℕ). IsPending a u (message a.d k (Behind l)))
         (let q : length x.log + 1 ≡ suc m = omega (arith, own) in q)
         (pending_new a w a.d taken 0 (message a.d k (Behind (length x.log + 1))) h.late refl)))
@@ -287,8 +255,7 @@ take_one a c r k m w e i h own low told next =
 pub pull : (a : Aim) (c r k len : ℕ) → Has a.desks k → (gap : ℕ) (w : World) (m : ℕ) (e : Entry)
     → Fit a r w → length (w.desks a.d).log ≡ m → m + suc gap ≡ len → length (w.desks k).log ≡ len
     → IsPending a w (message k a.d (Decided m e))
-    → ((v : World) → Taken a r k len w v → Decides a (lack a v + c) v)
-    → Decides a (lack a w + c) w
+    → ((v : World) → Taken a r k len w v → Decides a (lack a v + c) v) → Decides a (lack a w + c) w
 pull a c r k len i zero w m e h own short there told next =
     take_one a c r k m w e i h own (let l = h.lens k i in omega (arith, l, short, there)) told
     (λ v t q. decides_more a (lack a v + c) (lack a v + suc c) v (omega arith)
@@ -313,31 +280,21 @@ pull a c r k len i (suc gap) w m e h own short there told next =
         → (v : World) → Taken a r k (suc m) w v → IsPending a v (message a.d k (Behind (suc m)))
         → (y : Entry) × (more : List Message)
         × (on_body a.n k (v.desks k) a.d (Behind (suc m)) ≡ makes (v.desks k).seen None None
-        (message k a.d (Decided (suc m) y) ∷ more))
-        → Decides a (lack a v + suc c) v
+        (message k a.d (Decided (suc m) y) ∷ more)) → Decides a (lack a v + suc c) v
     tells_next again v t q s =
+        let f : Fit a r v = t.fit in
+        let ms : List Message = message k a.d (Decided (suc m) s.0) ∷ s.1 in
+        let p : Plan = makes (v.desks k).seen None None ms in
+        let u : World = carried v k p in
         comes a c v (message a.d k (Behind (suc m))) p f.reached a.mine i q s.2 (omega arith)
         (λ reached1. again u s.0
         (fit_plain a r v k (v.desks k).seen None ms f i reached1 (seen_at a r v k f))
         (ap (λ z. length z.log) (desks_same v k ms a.d) ∙ t.here) (omega (arith, short))
         (ap (λ z. length z.log) (desks_same v k ms k) ∙ still v t ∙ there)
-        (pending_new a v k p 0 (message k a.d (Decided (suc m) s.0)) f.late refl)
-        (λ z g. next z
+        (pending_new a v k p 0 (message k a.d (Decided (suc m) s.0)) f.late refl) (λ z g. next z
         (record {
           fit = g.fit;
           free = g.free;
           here = g.here;
           others = λ j ne. g.others j ne ∙ desks_same v k ms j ∙ t.others j ne;
         })))
-      where
-        f : Fit a r v
-        f = t.fit
-
-        ms : List Message
-        ms = message k a.d (Decided (suc m) s.0) ∷ s.1
-
-        p : Plan
-        p = makes (v.desks k).seen None None ms
-
-        u : World
-        u = carried v k p

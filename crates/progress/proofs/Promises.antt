@@ -1,36 +1,24 @@
 -- Desk d gathers promises of a ballot against which nothing is, until it can ask for votes.
-use Rattle.std.proofs.Common.{◌≡◌, ℕ, suc, ◌≤◌, ◌<◌, ◌+◌, ◌*◌, Bool, true, false}
-use Rattle.std.proofs.Common.{if◌then◌else◌, ◌==◌, List, [], ◌∷◌, ◌⊎◌, inl, inr, Option, Some, None}
-use Rattle.std.proofs.Common.{length, refl, sym, ap, ◌∙◌, subst, arith}
+use Rattle.std.proofs.Common.{◌≡◌, ℕ, suc, ◌≤◌, ◌<◌, ◌+◌, ◌*◌, Bool, true, false, if◌then◌else◌}
+use Rattle.std.proofs.Common.{◌==◌, List, [], ◌∷◌, ◌⊎◌, inl, inr, Option, Some, None, length, refl}
+use Rattle.std.proofs.Common.{sym, ap, ◌∙◌, subst, arith}
 use Rattle.std.proofs.lemmas.Bool.Decides.{nat_tests}
-use Rattle.acceptor.specs.declared.ballot.Ballot.{Ballot}
-use Rattle.acceptor.specs.Ballots.{is_below}
-use Rattle.acceptor.specs.declared.entry.Entry.{Entry}
-use Rattle.acceptor.specs.declared.message.Report.{Report}
+use Rattle.acceptor.specs.declared.{ballot.Ballot.Ballot, entry.Entry.Entry, message.Report.Report}
+use Rattle.acceptor.specs.{Ballots.is_below, Storing.log_after, Answers.reported}
 use Rattle.acceptor.specs.declared.message.Body.TheVariants.{Prepare, Promise, Accept}
-use Rattle.acceptor.specs.declared.stored.Stored.{Stored}
-use Rattle.acceptor.specs.declared.stored.Vote.{Vote}
+use Rattle.acceptor.specs.declared.stored.{Stored.Stored, Vote.Vote}
 use Rattle.acceptor.specs.Messages.{message, to_all}
-use Rattle.acceptor.specs.Storing.{log_after}
-use Rattle.acceptor.specs.Answers.{reported}
-use Rattle.proposer.specs.declared.role.PromisingDesk.{PromisingDesk}
+use Rattle.proposer.specs.declared.{role.PromisingDesk.PromisingDesk, plan.Plan.Plan}
 use Rattle.proposer.specs.declared.role.Role.TheVariants.{Gathering, Proposing}
-use Rattle.proposer.specs.declared.plan.Plan.{Plan}
-use Rattle.proposer.specs.Plans.{become}
-use Rattle.proposer.specs.Proposing.{is_majority, was_heard, higher, highest, choice, propose, ask}
-use Rattle.proposer.specs.Proposing.{promises_heard}
-use Rattle.learner.specs.Chosen.{Has, IsDistinct}
-use Rattle.learner.specs.Desks.{Desk, adopt, passing}
-use Rattle.learner.specs.Order.{IsBelow}
-use Rattle.learner.specs.Worlds.{World}
-use Rattle.learner.proofs.Order.{at_most_self}
+use Rattle.proposer.specs.{Plans.become, Proposing.choice, Proposing.propose, Proposing.ask}
+use Rattle.proposer.specs.Proposing.{promises_heard, is_majority, was_heard, higher, highest}
+use Rattle.learner.specs.{Chosen.Has, Chosen.IsDistinct, Desks.Desk, Order.IsBelow, Worlds.World}
+use Rattle.learner.{specs.Desks.adopt, specs.Desks.passing, proofs.Order.at_most_self}
 use Rattle.progress.proofs.Aims.{Aim, lack, cost, cost_less, IsReached, Decides, decides_more}
 use Rattle.progress.proofs.Aims.{carried, put_other, put_same, put_self, IsPending, pending_more}
-use Rattle.progress.proofs.Aims.{pending_new, comes}
+use Rattle.progress.proofs.{Aims.pending_new, Aims.comes, Starting.all_pending, Levels.levels}
 use Rattle.progress.proofs.Fits.{IsOldOr, Fit, fit_plain, fit_promised}
 use Rattle.progress.proofs.Answers.{promises, prepare_ahead, promised_at, promise_heard}
-use Rattle.progress.proofs.Starting.{all_pending}
-use Rattle.progress.proofs.Levels.{levels}
 use Rattle.progress.proofs.Votes.{IsClear, low_more, clear_level, clear_at, not_same, heard_test}
 
 -- a vote that is reported is for an old position, or for the entry itself
@@ -66,8 +54,7 @@ fair_choice a m (Some r) h = (r.entry, refl, h)
 
 -- desk d gathers promises of its ballot, and has still to hear these desks
 pub record Gathers (a : Aim) (r : ℕ) (b : Ballot) (m : ℕ) (left : List ℕ)
-    (heard : List PromisingDesk)
-    (w : World) : Type 0 where
+    (heard : List PromisingDesk) (w : World) : Type 0 where
   pub fit : Fit a r w
   pub role : (w.desks a.d).role ≡ Gathering b m heard
   pub own : length (w.desks a.d).log ≡ m
@@ -100,13 +87,13 @@ still_proposes n d x b m (Some e) = omega arith
 
 -- a desk promises
 gives : (a : Aim) (c r : ℕ) (b : Ballot) (m k : ℕ) (ks : List ℕ) (heard : List PromisingDesk)
-    (w : World)
-    → Gathers a r b m (k ∷ ks) heard w → length (w.desks k).log ≡ m
+    (w : World) → Gathers a r b m (k ∷ ks) heard w → length (w.desks k).log ≡ m
     → ((f : Entry) (v : World) → Proposes a r b m f v → Decides a (lack a v + c) v)
     → ((more : List PromisingDesk) (v : World) → Gathers a r b m ks more v
-    → Decides a (lack a v + c) v)
-    → Decides a (lack a w + suc (suc c)) w
+    → Decides a (lack a v + c) v) → Decides a (lack a w + suc (suc c)) w
 gives a c r b m k ks heard w g here proposes again =
+    let role1 : z.role ≡ Gathering b m heard = put_same (λ y. y.role) w.desks k (adopt x promising)
+    refl a.d ∙ g.role in
     comes a (suc c) w (message a.d k (Prepare b m)) promising fit.reached a.mine i
     (g.asked k (inl refl)) (promised_at a.n a.d k x b m here (g.low k (inl refl))) (omega arith)
     (λ reached1. comes a c u (message k a.d (Promise b m vote))
@@ -139,9 +126,6 @@ gives a c r b m k ks heard w g here proposes again =
 
     more : List PromisingDesk
     more = record { desk = k; vote = vote } ∷ heard
-
-    role1 : z.role ≡ Gathering b m heard
-    role1 = put_same (λ y. y.role) w.desks k (adopt x promising) refl a.d ∙ g.role
 
     own1 : length z.log ≡ m
     own1 = put_same (λ y. length y.log) w.desks k (adopt x promising) refl a.d ∙ g.own
@@ -180,10 +164,11 @@ gives a c r b m k ks heard w g here proposes again =
             × ((m ≤ a.old) ⊎ (f ≡ a.first))
             → Decides a (lack a (carried u a.d (next true)) + c) (carried u a.d (next true))
         asks f =
+            let plan : Plan = ask a.n a.d (passing z) b m f.0 in
+            let same : next true ≡ plan = ap (λ q. propose a.n a.d (passing z) b m
+            (choice (highest more) q)) h.queue ∙ ap (λ o. propose a.n a.d (passing z) b m o) f.1 in
             subst (λ (p : Plan). Decides a (lack a (carried u a.d p) + c) (carried u a.d p))
-            (sym same)
-            (proposes f.0 (carried u a.d plan)
-            (record {
+            (sym same) (proposes f.0 (carried u a.d plan) (record {
               fit = fit_plain a r u a.d z.seen (Some (Proposing b m f.0 []))
                   (to_all a.n a.d (Accept b m f.0)) h a.mine
                   (subst (λ (p : Plan). IsReached a.n (carried u a.d p)) same reached2)
@@ -196,17 +181,8 @@ gives a c r b m k ks heard w g here proposes again =
                   (let o = own1 in omega (arith, o)) (omega arith) clear1;
               tried = low_more a r b.number u a.d plan tried1;
             }))
-          where
-            plan : Plan
-            plan = ask a.n a.d (passing z) b m f.0
-
-            same : next true ≡ plan
-            same =
-                ap (λ q. propose a.n a.d (passing z) b m (choice (highest more) q)) h.queue
-                ∙ ap (λ o. propose a.n a.d (passing z) b m o) f.1
     count h false t reached2 =
-        again more (carried u a.d waits)
-        (record {
+        again more (carried u a.d waits) (record {
           fit = fit_plain a r u a.d z.seen (Some (Gathering b m more)) [] h a.mine reached2
               (λ s. h.seen);
           role = ap (λ y. y.role) (put_self u.desks a.d (adopt z waits));
@@ -238,13 +214,11 @@ gather_one : (a : Aim) (c r : ℕ) (b : Ballot) (m k : ℕ) (ks : List ℕ) (hea
     (w : World) → Gathers a r b m (k ∷ ks) heard w
     → ((f : Entry) (v : World) → Proposes a r b m f v → Decides a (lack a v + c) v)
     → ((more : List PromisingDesk) (v : World) → Gathers a r b m ks more v
-    → Decides a (lack a v + c) v)
-    → Decides a (lack a w + suc (suc (suc c))) w
+    → Decides a (lack a v + c) v) → Decides a (lack a w + suc (suc (suc c))) w
 gather_one a c r b m k ks heard w g proposes again =
+    let i : Has a.desks k = g.within k (inl refl) in
     levels a (suc c) r k m w (Prepare b m) i g.fit g.own (g.clear k i).1 (g.asked k (inl refl))
-    (λ x less. prepare_ahead a.n a.d k x b m less)
-    (λ v l. gives a c r b m k ks heard v
-    (record {
+    (λ x less. prepare_ahead a.n a.d k x b m less) (λ v l. gives a c r b m k ks heard v (record {
       fit = l.fit;
       role = ap (λ z. z.role) l.own ∙ g.role;
       own = ap (λ z. length z.log) l.own ∙ g.own;
@@ -261,9 +235,6 @@ gather_one a c r b m k ks heard w g proposes again =
           (let e = ap (λ z. length z.log) l.own in omega (arith, e)) in
           let o = g.tried in omega (arith, o, c);
     }) l.here proposes again)
-  where
-    i : Has a.desks k
-    i = g.within k (inl refl)
 
 -- all are heard, until a majority has promised
 pub gather_all : (a : Aim) (c r : ℕ) (b : Ballot) (m : ℕ)
@@ -273,9 +244,6 @@ pub gather_all : (a : Aim) (c r : ℕ) (b : Ballot) (m : ℕ)
 gather_all a c r b m proposes [] heard w g =
     let few = g.few in let enough = g.enough in absurd (grind (arith, nat_tests, few, enough))
 gather_all a c r b m proposes (k ∷ ks) heard w g =
-    decides_more a (lack a w + suc (suc (suc (3 * length ks + c))))
-    (lack a w + (3 * length (k ∷ ks) + c)) w (omega arith)
-    (gather_one a (3 * length ks + c) r b m k ks heard w g
-    (λ f v p. decides_more a (lack a v + c) (lack a v + (3 * length ks + c)) v (omega arith)
-    (proposes f v p))
-    (λ more v h. gather_all a c r b m proposes ks more v h))
+    decides_more a _ _ w (omega arith) (gather_one a _ r b m k _ _ w g
+    (λ f v p. decides_more a _ _ v (omega arith) (proposes f v p))
+    (λ more v h. gather_all a c r b m proposes _ _ v h))

@@ -1,24 +1,18 @@
 -- The entries of desk d's queue are decided one after the other, by events alone or by turns.
 use Rattle.std.proofs.Common.{◌≡◌, ℕ, zero, suc, ◌≤◌, ◌+◌, ◌-◌, ◌*◌, max, Bool, true, false, List}
-use Rattle.std.proofs.Common.{[], ◌∷◌, ◌++◌, inl, inr}
-use Rattle.std.proofs.Common.{Some, length, slice_get, refl, sym, ap, ◌∙◌, subst, arith}
-use Rattle.std.proofs.Common.{length-append}
-use Rattle.std.proofs.Math.Nat.{suc-mul, mul-suc, add-mul}
-use Rattle.std.proofs.lemmas.Option.{slice_get_within}
+use Rattle.std.proofs.Common.{[], ◌∷◌, ◌++◌, inl, inr, Some, length, slice_get, refl, sym, ap, ◌∙◌}
+use Rattle.std.proofs.{Common.subst, Common.arith, lemmas.Option.slice_get_within}
+use Rattle.std.proofs.{Common.length-append, Math.Nat.suc-mul, Math.Nat.mul-suc, Math.Nat.add-mul}
 use Rattle.acceptor.specs.declared.entry.Entry.{Entry}
-use Rattle.learner.specs.declared.event.WorldEvent.{WorldEvent}
-use Rattle.learner.specs.Chosen.{Has, IsMajority}
-use Rattle.learner.specs.Invariant.{IsSound}
+use Rattle.learner.specs.{declared.event.WorldEvent.WorldEvent, Laws.IsPrefix, Chosen.Has}
+use Rattle.learner.{specs.Chosen.IsMajority, proofs.Runs.after_sound, proofs.Runs.run_log}
 use Rattle.learner.specs.Worlds.{World, happens, run, after}
-use Rattle.learner.specs.Laws.{IsPrefix}
-use Rattle.learner.proofs.Runs.{after_sound, run_log}
 use Rattle.progress.specs.Progress.{AreHelp, StandFrom, longest, lacking, enough, CanDecide}
 use Rattle.progress.specs.Progress.{NoDeskIsStuck, NoQueueIsStuck}
 use Rattle.progress.specs.Turns.{takes_turn, take_turns, AreTurns, TurnsDecide}
-use Rattle.progress.specs.Turns.{NoServingDeskIsStuck}
-use Rattle.progress.proofs.Aims.{IsReached, goes, goes_on, AreHelps, run_goes_on, Aim, cost_of, lack}
-use Rattle.progress.proofs.Aims.{IsDecided, Decides, get_left}
-use Rattle.progress.proofs.Roles.{first_decided}
+use Rattle.progress.{specs.Turns.NoServingDeskIsStuck, proofs.Roles.first_decided}
+use Rattle.progress.proofs.Aims.{IsReached, goes, goes_on, AreHelps, run_goes_on, Aim, cost_of}
+use Rattle.progress.proofs.Aims.{lack, IsDecided, Decides, get_left}
 
 -- what stays the same while one entry after the other is decided
 record Hall : Type 0 where
@@ -55,8 +49,7 @@ record IsRoomy (h : Hall) (old number : ℕ) (es rest : List Entry) (w : World) 
   pub late : h.start ≤ length w.sent
   pub queue : (w.desks h.d).queue ≡ es ++ rest
   pub lens : (k : ℕ) → Has h.desks k → length (w.desks k).log ≤ old
-  pub promised : (k : ℕ) → Has h.desks k
-      → (w.desks k).stored.promised.number + spends h w ≤ number
+  pub promised : (k : ℕ) → Has h.desks k → (w.desks k).stored.promised.number + spends h w ≤ number
   pub tried : (w.desks h.d).stored.tried + spends h w ≤ number
   pub seen : (w.desks h.d).seen + spends h w ≤ number
   pub logs : old + 2 * length es ≤ h.top
@@ -90,8 +83,8 @@ all_decided : (h : Hall) (es rest : List Entry) (old number : ℕ) (w : World)
 all_decided h [] rest old number w g =
     record { events = []; help = tt; few = omega arith; decided = tt; queue = g.queue }
 all_decided h (e ∷ es) rest old number w g =
-    go (first_decided aim w begins)
-    (λ v k. all_decided h es rest (old + 2) (number + 2) v k)
+    let begins : Rattle.progress.proofs.Roles.Begins aim w = search arith in
+    go (first_decided aim w begins) (λ v k. all_decided h es rest (old + 2) (number + 2) v k)
   where
     aim : Aim
     aim =
@@ -114,24 +107,23 @@ all_decided h (e ∷ es) rest old number w g =
           numbers = let l = g.numbers in omega (arith, l);
         }
 
-    begins : Rattle.progress.proofs.Roles.Begins aim w
-    begins =
-        record {
-          reached = g.reached;
-          late = g.late;
-          queue = g.queue;
-          past = omega arith;
-          lens = g.lens;
-          promised = g.promised;
-          tried = g.tried;
-          seen = g.seen;
-        }
-
     go : Decides aim (lack aim w + each h) w
         → ((v : World) → IsRoomy h (old + 2) (number + 2) es rest v
         → AllDecide h (2 * lacking v h.top h.desks + length es * each h) es rest v)
         → AllDecide h (2 * lacking w h.top h.desks + length (e ∷ es) * each h) (e ∷ es) rest w
-    go f others = joined (others v roomy)
+    go f others =
+        let roomy : IsRoomy h (old + 2) (number + 2) es rest v = record {
+          reached = ends.reached;
+          late = ends.late;
+          queue = ends.queue;
+          lens = ends.lens;
+          promised = ends.promised;
+          tried = ends.tried;
+          seen = ends.seen;
+          logs = let l = g.logs in omega (arith, l);
+          numbers = let l = g.numbers in omega (arith, l);
+        } in
+        joined (others v roomy)
       where
         v : World
         v = goes_on h.starts h.n w f.events
@@ -139,67 +131,49 @@ all_decided h (e ∷ es) rest old number w g =
         ends : IsDecided aim v
         ends = f.ends
 
-        roomy : IsRoomy h (old + 2) (number + 2) es rest v
-        roomy =
-            record {
-              reached = ends.reached;
-              late = ends.late;
-              queue = ends.queue;
-              lens = ends.lens;
-              promised = ends.promised;
-              tried = ends.tried;
-              seen = ends.seen;
-              logs = let l = g.logs in omega (arith, l);
-              numbers = let l = g.numbers in omega (arith, l);
-            }
-
         joined : AllDecide h (2 * lacking v h.top h.desks + length es * each h) es rest v
             → AllDecide h (2 * lacking w h.top h.desks + length (e ∷ es) * each h) (e ∷ es) rest w
         joined o =
+            let r : IsReached h.n v = ends.reached in
+            let grows : IsPrefix (v.desks h.d).log
+            ((goes_on h.starts h.n v o.events).desks h.d).log = let g = run_goes_on h.starts h.n v
+            o.events in subst (λ (u : World). IsPrefix (v.desks h.d).log (u.desks h.d).log) g.1
+            (run_log h.n v g.0 (rw r.same at (after_sound h.n r.past)) h.d) in
+            let stand : StandFrom (length (w.desks h.d).log) (e ∷ es)
+            ((goes_on h.starts h.n v o.events).desks h.d).log = (
+              ends.at,
+              ends.past,
+              prefix_get _ _ _ e grows ends.entry,
+              stand_from _ _ _ _ (slice_get_within (v.desks h.d).log ends.at e ends.entry)
+                  o.decided,
+            ) in
             record {
               events = f.events ++ o.events;
               help = help_append h.starts h.n h.d h.desks h.start w f.events o.events f.help o.help;
               few =
-                  let l = length-append f.events o.events in
-                  let same = ap (λ u. lacking u h.top h.desks)
-                  (goes_append h.starts h.n w f.events o.events) in
-                  let p = f.few in
-                  let q = o.few in
-                  let m = suc-mul (length es) (each h) in omega (arith, l, same, p, q, m);
+                  omega (
+                    arith,
+                    length-append f.events o.events,
+                    ap (λ u. lacking u h.top h.desks)
+                        (goes_append h.starts h.n w f.events o.events),
+                    f.few,
+                    o.few,
+                    suc-mul (length es)
+                        (each h),
+                  );
               decided = subst (λ (u : World). StandFrom (length (w.desks h.d).log) (e ∷ es)
                   (u.desks h.d).log) (sym (goes_append h.starts h.n w f.events o.events)) stand;
-              queue = ap (λ u. (u.desks h.d).queue) (goes_append h.starts h.n w f.events o.events) ∙ o.queue;
+              queue =
+                  ap (λ u. (u.desks h.d).queue) (goes_append h.starts h.n w f.events o.events)
+                  ∙ o.queue;
             }
-          where
-            r : IsReached h.n v
-            r = ends.reached
-
-            grows : IsPrefix (v.desks h.d).log ((goes_on h.starts h.n v o.events).desks h.d).log
-            grows =
-                let g = run_goes_on h.starts h.n v o.events in
-                subst (λ (u : World). IsPrefix (v.desks h.d).log (u.desks h.d).log) g.1
-                (run_log h.n v g.0 (subst (λ (u : World). IsSound h.n u) r.same
-                (after_sound h.n r.past)) h.d)
-
-            stand : StandFrom (length (w.desks h.d).log) (e ∷ es)
-                ((goes_on h.starts h.n v o.events).desks h.d).log
-            stand = (
-              ends.at,
-              ends.past,
-              prefix_get (v.desks h.d).log ((goes_on h.starts h.n v o.events).desks h.d).log ends.at
-                  e grows ends.entry,
-              stand_from (suc ends.at) (length (v.desks h.d).log) es
-                  ((goes_on h.starts h.n v o.events).desks h.d).log
-                  (slice_get_within (v.desks h.d).log ends.at e ends.entry) o.decided,
-            )
 
 -- of longer logs each desk lacks as much more
 lacking_taller : (w : World) (len more : ℕ) (ks : List ℕ)
     → lacking w (len + more) ks ≤ lacking w len ks + more * length ks
 lacking_taller w len more [] = omega arith
 lacking_taller w len more (k ∷ ks) =
-    let l = lacking_taller w len more ks in
-    let m = mul-suc more (length ks) in omega (arith, l, m)
+    omega (arith, lacking_taller w len more ks, mul-suc more (length ks))
 
 -- for each entry 15 for each desk and 10, and four more for each desk
 shares : (c p : ℕ) → c * (15 * p + 10) + 2 * (2 * c * p) ≡ c * (19 * p + 10)
@@ -209,8 +183,7 @@ shares (suc c) p =
     let a = suc-mul c (15 * p + 10) in
     let b = suc-mul c (19 * p + 10) in
     let m : 2 * suc c * p ≡ 2 * c * p + 2 *
-    p = (let e : 2 * suc c ≡ 2 * c + 2 = omega arith in ap (λ z. z * p) e
-    ∙ add-mul (2 * c) 2 p) in
+    p = (let e : 2 * suc c ≡ 2 * c + 2 = omega arith in ap (λ z. z * p) e ∙ add-mul (2 * c) 2 p) in
     omega (arith, s, a, b, m)
 
 pub at_most_longest : (w : World) (ks : List ℕ) (k : ℕ) → Has ks k
@@ -227,8 +200,7 @@ pub longest_fits : (w : World) (ks : List ℕ) (more : ℕ) → more ≤ 65536
     → ((k : ℕ) → Has ks k → length (w.desks k).log + more ≤ 65536) → longest w ks + more ≤ 65536
 longest_fits w [] more low h = omega (arith, low)
 longest_fits w (k ∷ ks) more low h =
-    let here = h k (inl refl) in
-    let l = longest_fits w ks more low (λ j i. h j (inr i)) in omega (arith, here, l)
+    omega (arith, h k (inl refl), longest_fits w ks more low (λ j i. h j (inr i)))
 
 -- a number that is above none of these, with what they may cost, is far enough from the last
 numbers_fit : (w : World) (d : ℕ) (ks : List ℕ) (cost more : ℕ)
@@ -294,9 +266,7 @@ queue_decides : (s : Bool) (n : ℕ) (past : List WorldEvent) (d : ℕ) (desks :
     → ((after n past).desks d).seen + needed s d desks (after n past) (length es) ≤ 4294967295
     → QueueDecides s n d desks (after n past) es rest
 queue_decides s n past d desks es rest most mine queue logs promised tried seen =
-    go
-    (numbers_fit w d desks (cost_of s (top - length (w.desks d).log)) (2 * count) tried seen
-    promised)
+    go (numbers_fit w d _ _ _ tried seen promised)
   where
     w : World
     w = after n past
@@ -329,9 +299,13 @@ queue_decides s n past d desks es rest most mine queue logs promised tried seen 
           events = o.events;
           help = o.help;
           few =
-              let f = o.few in
-              let l = lacking_taller w (longest w desks) (2 * count) desks in
-              let q = shares count (length desks) in omega (arith, f, l, q);
+              omega (
+                arith,
+                o.few,
+                lacking_taller w (longest w desks) (2 * count) desks,
+                shares
+                    count (length desks),
+              );
           decided = o.decided;
           queue = o.queue;
         }
@@ -340,22 +314,10 @@ queue_decides s n past d desks es rest most mine queue logs promised tried seen 
         × ((w.desks d).stored.tried + cost_of s (top - length (w.desks d).log) ≤ number)
         × ((w.desks d).seen + cost_of s (top - length (w.desks d).log) ≤ number)
         × ((k : ℕ) → Has desks k → (w.desks k).stored.promised.number
-        + cost_of s (top - length (w.desks d).log) ≤ number)
-        → QueueDecides s n d desks w es rest
+        + cost_of s (top - length (w.desks d).log) ≤ number) → QueueDecides s n d desks w es rest
     go r =
-        done
-        (all_decided h es rest (longest w desks) r.0 w
-        (record {
-          reached = record { past = past; same = refl };
-          late = omega arith;
-          queue = queue;
-          lens = at_most_longest w desks;
-          promised = r.4;
-          tried = r.2;
-          seen = r.3;
-          logs = omega arith;
-          numbers = r.1;
-        }))
+        done (all_decided h es rest (longest w desks) r.0 w
+        (search (at_most_longest w desks, arith)))
 
 -- ---- the laws
 
@@ -366,8 +328,7 @@ plain_goes n w (e ∷ es) = plain_goes n (happens n w e) es
 plain_help : (n d : ℕ) (desks : List ℕ) (start : ℕ) (w : World) (es : List WorldEvent)
     → AreHelps false n d desks start w es → AreHelp n d desks start w es
 plain_help n d desks start w [] h = tt
-plain_help n d desks start w (e ∷ es) h =
-    (h.0, plain_help n d desks start (happens n w e) es h.1)
+plain_help n d desks start w (e ∷ es) h = (h.0, plain_help n d desks start (happens n w e) es h.1)
 
 turns_go : (n : ℕ) (w : World) (es : List WorldEvent) → goes_on true n w es ≡ take_turns n w es
 turns_go n w [] = refl
@@ -381,8 +342,7 @@ turns_help n d desks start w (e ∷ es) h =
 
 pub no_queue_is_stuck : NoQueueIsStuck
 no_queue_is_stuck n past d desks es rest most mine queue room =
-    said
-    (queue_decides false n past d desks es rest most mine queue room.logs
+    said (queue_decides false n past d desks es rest most mine queue room.logs
     (λ k i. let p = room.promised k i in omega (arith, p))
     (let t = room.tried in omega (arith, t)) (let s = room.seen in omega (arith, s)))
   where
@@ -395,8 +355,7 @@ no_queue_is_stuck n past d desks es rest most mine queue room =
           few = q.few;
           decided = subst (λ (u : World). StandFrom (length ((after n past).desks d).log) es
               (u.desks d).log) (plain_goes n (after n past) q.events) q.decided;
-          queue = ap (λ u. (u.desks d).queue) (sym (plain_goes n (after n past) q.events))
-              ∙ q.queue;
+          queue = cc (plain_goes n (after n past) q.events);
         }
 
 pub no_desk_is_stuck : NoDeskIsStuck

@@ -3,29 +3,20 @@ use Rattle.std.proofs.Common.{◌≡◌, ℕ, zero, suc, ◌≤◌, ◌<◌, ◌
 use Rattle.std.proofs.Common.{if◌then◌else◌, ◌==◌, List, [], ◌∷◌, inl, inr, Option, Some, None}
 use Rattle.std.proofs.Common.{length, slice_get, refl, sym, ap, ◌∙◌, subst, arith}
 use Rattle.std.proofs.lemmas.Bool.Decides.{nat_tests}
-use Rattle.acceptor.specs.declared.ballot.Ballot.{Ballot}
+use Rattle.acceptor.specs.declared.{ballot.Ballot.Ballot, entry.Entry.Entry, stored.Vote.Vote}
 use Rattle.acceptor.specs.Ballots.{is_below}
-use Rattle.acceptor.specs.declared.entry.Entry.{Entry}
-use Rattle.acceptor.specs.declared.message.Body.{Body}
-use Rattle.acceptor.specs.declared.message.Body.TheVariants.{Accept}
-use Rattle.acceptor.specs.declared.message.Message.{Message}
-use Rattle.acceptor.specs.declared.stored.Vote.{Vote}
+use Rattle.acceptor.specs.declared.message.{Body.Body, Body.TheVariants.Accept, Message.Message}
 use Rattle.acceptor.specs.Messages.{message, has, desks_from, without, to_each}
-use Rattle.proposer.specs.declared.role.Role.{Role}
+use Rattle.proposer.specs.declared.{role.Role.Role, plan.Plan.Plan}
 use Rattle.proposer.specs.declared.role.Role.TheVariants.{Idle, Gathering, Proposing, Leading}
-use Rattle.proposer.specs.declared.plan.Plan.{Plan}
 use Rattle.proposer.specs.Proposing.{is_majority, ask_again, tick_by_role}
 use Rattle.learner.specs.Chosen.{Has, IsDistinct, IsMajority}
-use Rattle.learner.specs.Desks.{Desk, passing}
-use Rattle.learner.specs.Invariant.{RoleStands, ProposingStands, LeadingStands, IsSound}
-use Rattle.learner.specs.Steps.{IsDesk}
-use Rattle.learner.specs.Worlds.{World}
+use Rattle.learner.specs.{Desks.Desk, Desks.passing, Steps.IsDesk, Worlds.World}
+use Rattle.learner.{proofs.Runs.after_sound, specs.Invariant.RoleStands, specs.Invariant.IsSound}
 use Rattle.learner.proofs.Quorum.{drop_each, length-drop_each, Has-drop_each, IsDistinct-drop_each}
-use Rattle.learner.proofs.Runs.{after_sound}
 use Rattle.progress.proofs.Aims.{Aim, lack, cost, IsReached, Decides, decides_more, carried}
-use Rattle.progress.proofs.Aims.{IsPending, pending_new, ticks}
+use Rattle.progress.proofs.{Aims.IsPending, Aims.pending_new, Aims.ticks, Levels.desks_same}
 use Rattle.progress.proofs.Fits.{IsOldOr, Fit, fit_plain}
-use Rattle.progress.proofs.Levels.{desks_same}
 use Rattle.progress.proofs.Starting.{IsFreeIn, IsFree, free_idle}
 use Rattle.progress.proofs.Votes.{Asks, Yields, LeadsOrAsks, Leads, low_more, hear_all}
 use Rattle.progress.proofs.Ballots.{asks_all, lead_asks, not_other, free_decides}
@@ -60,8 +51,7 @@ dropped_short (x ∷ xs) d = go (x == d) (dropped_short xs d)
 unheard_short : (desks hs : List ℕ) → length (unheard desks hs) ≤ length desks
 unheard_short desks [] = omega arith
 unheard_short desks (x ∷ hs) =
-    let a = dropped_short (unheard desks hs) x in
-    let b = unheard_short desks hs in omega (arith, a, b)
+    omega (arith, dropped_short (unheard desks hs) x, unheard_short desks hs)
 
 pub not_heard : (desks hs : List ℕ) (k : ℕ) → Has (unheard desks hs) k
     → Has desks k × (has hs k ≡ false)
@@ -94,8 +84,7 @@ asked_get from body first (suc count) k hs ne low high =
         (message from k body))
     go true true e g ih =
         let same : first ≡ k = grind (arith, nat_tests) in
-        let bad : has hs first ≡ false = subst (λ (j : ℕ). has hs j ≡ false) (sym same) ne in absurd
-        cc
+        let bad : has hs first ≡ false = rw same ne in absurd cc
     go true false e g ih =
         let same : first ≡ k = grind (arith, nat_tests) in
         (0, ap (λ j. Some (message from j body)) same)
@@ -126,21 +115,17 @@ lead_decides a b m w h role own low = by_role role
         → is_below b (w.desks a.d).stored.promised ≡ t
         → Decides a (lack a w + (12 * length a.desks + 9)) w
     leads leading true t =
-        decides_more a (lack a w + all) (lack a w + (12 * length a.desks + 9)) w (omega arith)
-        (free_decides a a.number w h (omega arith)
+        decides_more a _ _ w (omega arith) (free_decides a _ w h (omega arith)
         (subst (λ (r : Role). IsFreeIn (w.desks a.d).stored.promised r) (sym leading) t))
     leads leading false t =
-        decides_more a (lack a w + suc (3 * length a.desks + all))
-        (lack a w + (12 * length a.desks + 9)) w (omega arith)
-        (lead_asks a (3 * length a.desks + all) a.number m ⊥ b w h leading t own low
+        decides_more a _ _ w (omega arith) (lead_asks a _ _ m ⊥ b w h leading t own low
         (λ z. absurd z) asked)
 
     by_role : LeadsOrAsks a b m w → Decides a (lack a w + (12 * length a.desks + 9)) w
     by_role (inl leading) = leads leading (is_below b (w.desks a.d).stored.promised) refl
     by_role (inr asking) =
-        decides_more a (lack a w + (3 * length a.desks + all))
-        (lack a w + (12 * length a.desks + 9)) w (omega arith)
-        (asked w (asks_all a a.number m ⊥ b w h asking.0 own asking.1 low (λ z. absurd z)))
+        decides_more a _ _ w (omega arith) (asked w
+        (asks_all a _ m ⊥ b w h asking.0 own asking.1 low (λ z. absurd z)))
 
 -- a desk that proposes, by a number that it knows
 proposer_decides : (a : Aim) (b : Ballot) (m : ℕ) (f : Entry) (heard : List ℕ) (w : World)
@@ -149,9 +134,7 @@ proposer_decides : (a : Aim) (b : Ballot) (m : ℕ) (f : Entry) (heard : List �
     → Decides a (lack a w + (15 * length a.desks + 10)) w
 proposer_decides a b m f heard w h role own old low few =
     decides_more a (lack a w + suc (3 * length left + all)) (lack a w + (15 * length a.desks + 10))
-    w
-    (let l = unheard_short a.desks heard in omega (arith, l))
-    (ticks a (3 * length left + all) w plan h.reached
+    w (omega (arith, unheard_short a.desks heard)) (ticks a (3 * length left + all) w plan h.reached
     (ap (λ r. tick_by_role a.n a.d x.stored (length x.log) (passing x) r) role) (omega arith)
     (λ reached1. hear_all a all a.number ⊥ b m f yields leads left heard v (asks reached1)))
   where
@@ -177,9 +160,7 @@ proposer_decides a b m f heard w h role own old low few =
     v = carried w a.d plan
 
     yields : (u : World) → Yields a a.number ⊥ u → Decides a (lack a u + all) u
-    yields u y =
-        decides_more a (lack a u + (9 * length a.desks + 8)) (lack a u + all) u (omega arith)
-        (free_decides a a.number u y.fit (omega arith) y.free)
+    yields u y = decides_more a _ _ u (omega arith) (free_decides a _ u y.fit (omega arith) y.free)
 
     leads : (u : World) → Leads a a.number ⊥ b m u
         → Rattle.acceptor.specs.Entries.is_same_entry a.first f ≡ false
@@ -220,8 +201,7 @@ pub record Begins (a : Aim) (w : World) : Type 0 where
   pub queue : (w.desks a.d).queue ≡ a.first ∷ a.rest
   pub past : a.from ≤ length (w.desks a.d).log
   pub lens : (k : ℕ) → Has a.desks k → length (w.desks k).log ≤ a.old
-  pub promised : (k : ℕ) → Has a.desks k
-      → (w.desks k).stored.promised.number + cost a w ≤ a.number
+  pub promised : (k : ℕ) → Has a.desks k → (w.desks k).stored.promised.number + cost a w ≤ a.number
   pub tried : (w.desks a.d).stored.tried + cost a w ≤ a.number
   pub seen : (w.desks a.d).seen + cost a w ≤ a.number
 
@@ -251,8 +231,7 @@ first_decided a w h = by_role (w.desks a.d).role refl
           queue = h.queue;
           past = h.past;
           lens = λ k i. let l = h.lens k i in omega (arith, l);
-          votes = λ k i. let s = steady k in old_vote a (length (w.desks k).log)
-              (w.desks k).stored.vote (h.lens k i) s.vote;
+          votes = λ k i. let s = steady k in old_vote a _ _ (h.lens k i) s.vote;
           promised = h.promised;
           tried = h.tried;
           seen = h.seen;
@@ -260,10 +239,7 @@ first_decided a w h = by_role (w.desks a.d).role refl
         }
 
     free : IsFree (w.desks a.d) → Decides a (lack a w + (15 * length a.desks + 10)) w
-    free f =
-        decides_more a (lack a w + (9 * length a.desks + 8)) (lack a w + (15 * length a.desks + 10))
-        w (omega arith)
-        (free_decides a a.number w fit (omega arith) f)
+    free f = decides_more a _ _ w (omega arith) (free_decides a _ w fit (omega arith) f)
 
     Stands : Role → Type 0
     Stands role = RoleStands a.n w.sent a.d (w.desks a.d).stored.tried (length (w.desks a.d).log)
@@ -275,21 +251,15 @@ first_decided a w h = by_role (w.desks a.d).role refl
     by_role : (role : Role) → (w.desks a.d).role ≡ role
         → Decides a (lack a w + (15 * length a.desks + 10)) w
     by_role Idle same = free (free_idle (w.desks a.d) same)
-    by_role (Gathering b m heard) same =
-        free (subst (λ (o : Role). IsFreeIn (w.desks a.d).stored.promised o) (sym same) tt)
+    by_role (Gathering b m heard) same = free (rw same tt)
     by_role (Proposing b m f heard) same =
-        let s : ProposingStands a.n w.sent a.d (w.desks a.d).stored.tried (length (w.desks a.d).log)
-        b m f heard =
-        subst Stands same stands in
+        let s = subst Stands same stands in
         let own : length (w.desks a.d).log ≡ m = sym s.place in
-        proposer_decides a b m f heard w fit same own
-        (let l = h.lens a.d a.mine in omega (arith, own, l))
-        (let t = s.tried in let u = h.tried in omega (arith, t, u))
+        proposer_decides a b m f heard w fit same own (omega (arith, own, h.lens a.d a.mine))
+        (omega (arith, s.tried, h.tried))
         (let q = steady a.d in subst (λ (o : Role). Waits a.n o) same q.role)
     by_role (Leading b) same =
-        let s : LeadingStands a.n w.sent a.d (w.desks a.d).stored.tried (length (w.desks a.d).log)
-        b =
-        subst Stands same stands in
+        let s = subst Stands same stands in
         decides_more a (lack a w + (12 * length a.desks + 9))
         (lack a w + (15 * length a.desks + 10)) w (omega arith)
         (lead_decides a b (length (w.desks a.d).log) w fit (inl same) refl

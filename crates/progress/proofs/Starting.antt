@@ -1,41 +1,29 @@
 -- A desk may start where its log has grown: what that changes.
-use Rattle.std.proofs.Common.{◌≡◌, ℕ, zero, suc, ◌≤◌, ◌<◌, ◌+◌, Bool, true, false, if◌then◌else◌, ◌==◌}
-use Rattle.std.proofs.Common.{List, [], ◌∷◌, ◌⊎◌, inl, inr, Option, Some, None, Result, Ok, Err}
-use Rattle.std.proofs.Common.{length, slice_get, refl, sym, ap, ◌∙◌, subst, arith, length-append}
+use Rattle.std.proofs.Common.{◌≡◌, ℕ, Bool, true, false, ◌==◌, List, Some, None, refl, subst, arith}
+use Rattle.std.proofs.Common.{zero, if◌then◌else◌, Option, Result, length, slice_get, length-append}
+use Rattle.std.proofs.Common.{suc, ◌≤◌, ◌<◌, ◌+◌, [], ◌∷◌, ◌⊎◌, inl, inr, Ok, Err, sym, ap, ◌∙◌}
 use Rattle.std.proofs.lemmas.Bool.Decides.{nat_tests}
-use Rattle.acceptor.specs.declared.ballot.Ballot.{Ballot}
-use Rattle.acceptor.specs.Ballots.{is_below}
-use Rattle.acceptor.specs.declared.entry.Entry.{Entry}
-use Rattle.acceptor.specs.declared.message.Body.{Body}
+use Rattle.acceptor.specs.declared.{ballot.Ballot.Ballot, entry.Entry.Entry, stored.Vote.Vote}
+use Rattle.acceptor.specs.{Ballots.is_below, Storing.stored_after, Storing.log_after}
+use Rattle.acceptor.specs.declared.message.{Body.Body, Message.Message}
 use Rattle.acceptor.specs.declared.message.Body.TheVariants.{Prepare, Accept, Accepted, Decided}
-use Rattle.acceptor.specs.declared.message.Message.{Message}
-use Rattle.acceptor.specs.declared.stored.Vote.{Vote}
-use Rattle.acceptor.specs.declared.stored.Change.{Change}
-use Rattle.acceptor.specs.declared.stored.Change.TheVariants.{Tried}
+use Rattle.acceptor.specs.declared.stored.Change.{Change, TheVariants.Tried}
 use Rattle.acceptor.specs.Messages.{message, desks_from, to_each, to_all}
-use Rattle.acceptor.specs.Storing.{stored_after, log_after}
-use Rattle.proposer.specs.declared.fault.Refusal.{Refusal}
+use Rattle.proposer.specs.declared.{fault.Refusal.Refusal, role.Role.Role, plan.Plan.Plan}
 use Rattle.proposer.specs.declared.fault.Refusal.TheVariants.{BallotsSpent, LogFull}
-use Rattle.proposer.specs.declared.role.Role.{Role}
 use Rattle.proposer.specs.declared.role.Role.TheVariants.{Idle, Gathering, Proposing, Leading}
-use Rattle.proposer.specs.declared.plan.Plan.{Plan}
-use Rattle.proposer.specs.Plans.{append}
-use Rattle.proposer.specs.Proposing.{is_full, last_number, gather, new_ballot, ask_next, is_outbid}
-use Rattle.proposer.specs.Proposing.{start_by_role}
-use Rattle.learner.specs.declared.event.DeskEvent.TheVariants.{Start}
-use Rattle.learner.specs.declared.event.WorldEvent.TheVariants.{Start as StartAt}
-use Rattle.learner.specs.Chosen.{Has}
-use Rattle.learner.specs.Desks.{Desk, adopt, passing}
-use Rattle.learner.specs.Order.{IsBelow}
-use Rattle.learner.specs.Steps.{IsDesk, on_body, planned, step}
+use Rattle.proposer.specs.{Plans.append, Proposing.ask_next, Proposing.is_outbid}
+use Rattle.proposer.specs.Proposing.{start_by_role, is_full, last_number, gather, new_ballot}
+use Rattle.learner.specs.{declared.event.DeskEvent.TheVariants.Start, Chosen.Has, Order.IsBelow}
+use Rattle.learner.specs.{declared.event.WorldEvent.TheVariants.Start as StartAt, Desks.Desk}
+use Rattle.learner.specs.{Desks.adopt, Desks.passing, Steps.IsDesk, Steps.on_body, Steps.planned}
 use Rattle.learner.specs.Worlds.{World, world_after, at_desk}
-use Rattle.progress.specs.Turns.{has_grown}
-use Rattle.progress.proofs.Aims.{Aim, IsReached, reached_more, may_start, lack, cost_of, cost}
-use Rattle.progress.proofs.Aims.{cost_less, cost_pays, IsDecided, Decides, decides_more, carried}
-use Rattle.progress.proofs.Aims.{put_other, put_same, put_self, desk_test, IsPending, pending_more}
-use Rattle.progress.proofs.Aims.{pending_new, late_more, lacking_less, lack_less, lack_pays, arrives}
+use Rattle.progress.{specs.Turns.has_grown, proofs.Answers.takes_in, proofs.Answers.taken_at}
+use Rattle.progress.proofs.Aims.{Aim, lack, cost_of, cost, Decides, carried, put_self, arrives}
+use Rattle.progress.proofs.Aims.{IsReached, reached_more, decides_more, pending_more, lacking_less}
+use Rattle.progress.proofs.Aims.{may_start, cost_less, cost_pays, IsDecided, put_other, pending_new}
+use Rattle.progress.proofs.Aims.{put_same, desk_test, IsPending, late_more, lack_less, lack_pays}
 use Rattle.progress.proofs.Fits.{IsOldOr, Fit, queue_kept, makes}
-use Rattle.progress.proofs.Answers.{takes_in, taken_at}
 
 -- the desk's Tick makes a ballot, once there is an entry in its queue
 abbrev pub IsFreeIn : Ballot → Role → Type 0
@@ -79,8 +67,7 @@ all_pending a w p body k same late i =
     let low = ours.0 in
     let high = ours.1 in
     let g = each_get a.d body 1 a.n k low (omega (arith, high)) in
-    pending_new a w a.d p g.0 (message a.d k body) late
-    (ap (λ ms. slice_get ms g.0) same ∙ g.1)
+    pending_new a w a.d p g.0 (message a.d k body) late (ap (λ ms. slice_get ms g.0) same ∙ g.1)
 
 -- ---- what a Start changes
 
@@ -100,20 +87,7 @@ pub record Started (a : Aim) (k : ℕ) (u v : World) : Type 0 where
       ≤ last_number (u.desks k).stored (passing (u.desks k)) + cost_of a.starts 1
 
 started_not : (a : Aim) (k : ℕ) (u : World) → IsReached a.n u → Started a k u u
-started_not a k u r =
-    record {
-      first = r;
-      reached = r;
-      late = λ l. l;
-      sent = λ m h. h;
-      others = λ j ne. refl;
-      logs = λ j. refl;
-      queues = λ j. refl;
-      promised = λ j. refl;
-      votes = λ j. refl;
-      seen = λ j. refl;
-      tried = omega arith;
-    }
+started_not a k u r = search arith
 
 -- this is what it did
 started_by : (a : Aim) (k : ℕ) (u : World) (role : Option Role) (change : Option Change)
@@ -126,6 +100,8 @@ started_by : (a : Aim) (k : ℕ) (u : World) (role : Option Role) (change : Opti
     ≤ last_number (u.desks k).stored (passing (u.desks k)) + cost_of a.starts 1
     → Started a k u (carried u k (makes (u.desks k).seen role change ms))
 started_by a k u role change ms r reached log promised vote tried =
+    let p : Plan = makes (u.desks k).seen role change ms in
+    let y : Desk = adopt (u.desks k) p in
     record {
       first = r;
       reached = reached;
@@ -137,24 +113,17 @@ started_by a k u role change ms r reached log promised vote tried =
       promised = λ j. put_same (λ z. z.stored.promised) u.desks k y promised j;
       votes = λ j. put_same (λ z. z.stored.vote) u.desks k y vote j;
       seen = λ j. put_same (λ z. z.seen) u.desks k y refl j;
-      tried =
-          let e = ap (λ z. z.stored.tried) (put_self u.desks k y) in
-          let t = tried in omega (arith, e, t);
+      tried = omega (arith, ap (λ z. z.stored.tried) (put_self u.desks k y), tried);
     }
-  where
-    p : Plan
-    p = makes (u.desks k).seen role change ms
-
-    y : Desk
-    y = adopt (u.desks k) p
 
 -- it lacks what it lacked
 lack_started : (a : Aim) (k : ℕ) (u v : World) → Started a k u v → lack a v ≤ lack a u
 lack_started a k u v s =
-    let l =
-    lacking_less v u a.top a.desks
-    (λ j. let e = ap (λ z. length z) (s.logs j) in omega (arith, e)) in
-    omega (arith, l)
+    omega (
+      arith,
+      lacking_less v u a.top a.desks
+          (λ j. let e = ap (λ z. length z) (s.logs j) in omega (arith, e)),
+    )
 
 -- desk k starts, if desks do and its log has grown
 at_start : (a : Aim) (k before : ℕ) (u : World) (P : World → Type 0) → IsReached a.n u → P u
@@ -176,19 +145,14 @@ by_plan u k r = world_after u k (planned (u.desks k) r)
 
 -- a Start of a desk of this role
 start_is : (n : ℕ) (u : World) (k : ℕ) (o : Role) → IsDesk n k → (u.desks k).role ≡ o
-    → at_desk n u k Start
-    ≡ by_plan u k
+    → at_desk n u k Start ≡ by_plan u k
     (start_by_role n k (u.desks k).stored (length (u.desks k).log) (passing (u.desks k)) o)
-start_is n u k o ours role =
-    ap (λ t. if t then world_after u k (step n k (u.desks k) Start) else u) (desk_test n k ours)
-    ∙ ap (λ r. by_plan u k
-    (start_by_role n k (u.desks k).stored (length (u.desks k).log) (passing (u.desks k)) r)) role
+start_is n u k o ours role = cc (desk_test n k ours)
 
 -- a free desk makes a ballot, if a number is left
 ballot_starts : (a : Aim) (k : ℕ) (u : World) (P : World → Type 0) → IsReached a.n u
     → a.starts ≡ true → IsFree (u.desks k)
-    → ((v : World) → Started a k u v → IsFree (v.desks k) → P v)
-    → IsReached a.n (by_plan u k
+    → ((v : World) → Started a k u v → IsFree (v.desks k) → P v) → IsReached a.n (by_plan u k
     (new_ballot a.n k (u.desks k).stored (length (u.desks k).log) (passing (u.desks k))))
     → P (by_plan u k
     (new_ballot a.n k (u.desks k).stored (length (u.desks k).log) (passing (u.desks k))))
@@ -206,13 +170,11 @@ ballot_starts a k u P r on free next = go (last_number x.stored (passing x) == 4
     v : World
     v = carried u k made
 
-    go : (t : Bool)
-        → IsReached a.n (by_plan u k (if t then Err BallotsSpent else Ok made))
+    go : (t : Bool) → IsReached a.n (by_plan u k (if t then Err BallotsSpent else Ok made))
         → P (by_plan u k (if t then Err BallotsSpent else Ok made))
     go true reached = next u (started_not a k u r) free
     go false reached =
-        next v
-        (started_by a k u (Some (Gathering b (length x.log) []))
+        next v (started_by a k u (Some (Gathering b (length x.log) []))
         (Some (Tried (last_number x.stored (passing x) + 1)))
         (to_all a.n k (Prepare b (length x.log))) r reached refl refl refl
         (let c = ap (λ s. cost_of s 1) on in omega (arith, c)))
@@ -224,15 +186,12 @@ pub idle_starts : (a : Aim) (k before : ℕ) (u : World) (P : World → Type 0) 
     → ((v : World) → Started a k u v → IsFree (v.desks k) → P v)
     → P (may_start a.starts a.n k before u)
 idle_starts a k before u P i r role next =
+    let ours : IsDesk a.n k = let m = a.majority in m.ours k i in
     at_start a k before u P r stays
-    (λ on. subst (λ (v : World). IsReached a.n v → P v) (sym (start_is a.n u k Idle ours role))
-    (full on (is_full (length (u.desks k).log))))
+    (λ on. rw (start_is a.n u k Idle ours role) (full on (is_full (length (u.desks k).log))))
   where
     x : Desk
     x = u.desks k
-
-    ours : IsDesk a.n k
-    ours = let m = a.majority in m.ours k i
 
     free : IsFree x
     free = free_idle x role
@@ -240,8 +199,7 @@ idle_starts a k before u P i r role next =
     stays : P u
     stays = next u (started_not a k u r) free
 
-    full : a.starts ≡ true → (t : Bool)
-        → IsReached a.n (by_plan u k (if t then Err LogFull
+    full : a.starts ≡ true → (t : Bool) → IsReached a.n (by_plan u k (if t then Err LogFull
         else new_ballot a.n k x.stored (length x.log) (passing x)))
         → P (by_plan u k (if t then Err LogFull
         else new_ballot a.n k x.stored (length x.log) (passing x)))
@@ -269,15 +227,12 @@ leading_starts : (a : Aim) (before : ℕ) (u : World) (b : Ballot) (P : World �
     → ((v : World) → Started a a.d u v → LeadsOn a b u v → P v)
     → P (may_start a.starts a.n a.d before u)
 leading_starts a before u b P r late role next =
-    at_start a a.d before u P r stays
-    (λ on. subst (λ (v : World). IsReached a.n v → P v)
+    let ours : IsDesk a.n a.d = let m = a.majority in m.ours a.d a.mine in
+    at_start a a.d before u P r stays (λ on. subst (λ (v : World). IsReached a.n v → P v)
     (sym (start_is a.n u a.d (Leading b) ours role)) (full on (is_full (length x.log))))
   where
     x : Desk
     x = u.desks a.d
-
-    ours : IsDesk a.n a.d
-    ours = let m = a.majority in m.ours a.d a.mine
 
     stays : P u
     stays = next u (started_not a a.d u r) (inl role)
@@ -292,8 +247,11 @@ leading_starts a before u b P r late role next =
         (started_by a a.d u None None [] r reached refl refl refl (omega arith))
         (inl (ap (λ y. y.role) (put_self u.desks a.d (adopt x (makes x.seen None None []))) ∙ role))
     by_queue (e ∷ es) same reached =
-        next v (started_by a a.d u asking None ms r reached refl refl refl (omega arith))
-        (inr (inl
+        let asking : Option Role = Some (Proposing b (length x.log) e []) in
+        let ms : List Message = to_all a.n a.d (Accept b (length x.log) e) in
+        let plan : Plan = makes x.seen asking None ms in
+        let v : World = carried u a.d plan in
+        next v (started_by a a.d u asking None ms r reached refl refl refl (omega arith)) (inr (inl
         (record {
           entry = e;
           more = es;
@@ -301,18 +259,6 @@ leading_starts a before u b P r late role next =
           role = ap (λ y. y.role) (put_self u.desks a.d (adopt x plan));
           asked = λ k i. all_pending a u plan (Accept b (length x.log) e) k refl late i;
         })))
-      where
-        asking : Option Role
-        asking = Some (Proposing b (length x.log) e [])
-
-        ms : List Message
-        ms = to_all a.n a.d (Accept b (length x.log) e)
-
-        plan : Plan
-        plan = makes x.seen asking None ms
-
-        v : World
-        v = carried u a.d plan
 
     outbid : a.starts ≡ true → (t : Bool) → is_below b x.stored.promised ≡ t
         → IsReached a.n (by_plan u a.d (if t
@@ -320,16 +266,13 @@ leading_starts a before u b P r late role next =
         → P (by_plan u a.d (if t
         then new_ballot a.n a.d x.stored (length x.log) (passing x) else asks x.queue))
     outbid on true below reached =
-        ballot_starts a a.d u P r on
-        (subst (λ (o : Role). IsFreeIn x.stored.promised o) (sym role) below)
+        ballot_starts a a.d u P r on (rw role below)
         (λ v s free. next v s (inr (inr (free, below)))) reached
     outbid on false below reached = by_queue x.queue refl reached
 
-    full : a.starts ≡ true → (t : Bool)
-        → IsReached a.n (by_plan u a.d (if t then Err LogFull
+    full : a.starts ≡ true → (t : Bool) → IsReached a.n (by_plan u a.d (if t then Err LogFull
         else (if is_outbid x.stored b then new_ballot a.n a.d x.stored (length x.log) (passing x)
-        else asks x.queue)))
-        → P (by_plan u a.d (if t then Err LogFull
+        else asks x.queue))) → P (by_plan u a.d (if t then Err LogFull
         else (if is_outbid x.stored b then new_ballot a.n a.d x.stored (length x.log) (passing x)
         else asks x.queue)))
     full on true reached = stays
@@ -343,61 +286,42 @@ pub takes : (a : Aim) (c : ℕ) (w : World) (k from m : ℕ) (e : Entry) → IsR
     → Has a.desks from → Has a.desks k → IsPending a w (message from k (Decided m e))
     → length (w.desks k).log ≡ m → length (w.desks k).log < a.top
     → ((v : World) → Started a k (carried w k (takes_in (w.desks k) k from e)) v
-    → IsFree (v.desks k) → Decides a (lack a v + suc c) v)
-    → Decides a (lack a w + c) w
+    → IsFree (v.desks k) → Decides a (lack a v + suc c) v) → Decides a (lack a w + c) w
 takes a c w k from m e r has i told here low next =
+    let x : Desk = w.desks k in
+    let taken : Plan = takes_in x k from e in
+    let u : World = carried w k taken in
     arrives a (lack a u + suc c) (lack a w + c) w (message from k (Decided m e)) taken r has i told
-    (taken_at a.n from k x m e here)
-    (let l = lack_pays a w k taken e i refl low in omega (arith, l))
+    (taken_at a.n from k x m e here) (omega (arith, lack_pays a w k taken e i refl low))
     (λ reached. idle_starts a k (length x.log) u (λ v. Decides a (lack a u + suc c) v) i reached
     (ap (λ y. y.role) (put_self w.desks k (adopt x taken)))
     (λ v s free. decides_more a (lack a v + suc c) (lack a u + suc c) v
     (let l = lack_started a k u v s in omega (arith, l)) (next v s free)))
-  where
-    x : Desk
-    x = w.desks k
-
-    taken : Plan
-    taken = takes_in x k from e
-
-    u : World
-    u = carried w k taken
 
 -- the vote of desk k comes to desk d, whose votes are a majority then, and which may start
 pub wins : (a : Aim) (c : ℕ) (w : World) (k m : ℕ) (b : Ballot) (f : Entry) (ms : List Message)
     → IsReached a.n w → a.start ≤ length w.sent → Has a.desks k
-    → IsPending a w (message k a.d (Accepted b m))
-    → on_body a.n a.d (w.desks a.d) k (Accepted b m)
-    ≡ append (passing (w.desks a.d)) f (Leading b) ms
-    → ((v : World)
+    → IsPending a w (message k a.d (Accepted b m)) → on_body a.n a.d (w.desks a.d) k (Accepted b m)
+    ≡ append (passing (w.desks a.d)) f (Leading b) ms → ((v : World)
     → Started a a.d (carried w a.d (append (passing (w.desks a.d)) f (Leading b) ms)) v
     → LeadsOn a b (carried w a.d (append (passing (w.desks a.d)) f (Leading b) ms)) v
-    → Decides a (lack a v + c) v)
-    → Decides a (lack a w + suc c) w
+    → Decides a (lack a v + c) v) → Decides a (lack a w + suc c) w
 wins a c w k m b f ms r late i told same next =
+    let x : Desk = w.desks a.d in
+    let won : Plan = append (passing x) f (Leading b) ms in
+    let u : World = carried w a.d won in
     arrives a (lack a u + c) (lack a w + suc c) w (message k a.d (Accepted b m)) won r i a.mine told
-    same
-    (let l = lack_less a w a.d won in omega (arith, l))
+    same (let l = lack_less a w a.d won in omega (arith, l))
     (λ reached. leading_starts a (length x.log) u b (λ v. Decides a (lack a u + c) v) reached
     (late_more a w a.d won late) (ap (λ y. y.role) (put_self w.desks a.d (adopt x won)))
     (λ v s leads. decides_more a (lack a v + c) (lack a u + c) v
     (let l = lack_started a a.d u v s in omega (arith, l)) (next v s leads)))
-  where
-    x : Desk
-    x = w.desks a.d
-
-    won : Plan
-    won = append (passing x) f (Leading b) ms
-
-    u : World
-    u = carried w a.d won
 
 -- ---- what of it is kept
 
 -- the cost is what it was
 pub cost_started : (a : Aim) (k : ℕ) (u v : World) → Started a k u v → cost a v ≤ cost a u
-cost_started a k u v s =
-    cost_less a v u (let e = ap (λ z. length z) (s.logs a.d) in omega (arith, e))
+cost_started a k u v s = cost_less a v u (omega (arith, ap (λ z. length z) (s.logs a.d)))
 
 -- of another desk desk d knows nothing
 tried_started : (a : Aim) (r k : ℕ) (u v : World) → Started a k u v
@@ -422,14 +346,12 @@ fit_started a r k u v s h own =
       late = s.late h.late;
       queue = s.queues a.d ∙ h.queue;
       past = let e = ap (λ z. length z) (s.logs a.d) in let p = h.past in omega (arith, e, p);
-      lens = λ j i. let e = ap (λ z. length z) (s.logs j) in let l = h.lens j i in omega
-          (arith, e, l);
+      lens = λ j i. omega (arith, ap (λ z. length z) (s.logs j), h.lens j i);
       votes = λ j i. subst (λ (o : Option Vote). IsOldOr a o) (sym (s.votes j)) (h.votes j i);
       promised = λ j i. let e = ap (λ q. q.number) (s.promised j) in let l = h.promised j i in
           let c = cost_started a k u v s in omega (arith, e, l, c);
       tried = tried_started a r k u v s h.tried own;
-      seen = let e = s.seen a.d in let l = h.seen in let c = cost_started a k u v s in omega
-          (arith, e, l, c);
+      seen = omega (arith, s.seen a.d, h.seen, cost_started a k u v s);
       under = h.under;
     }
 
@@ -439,27 +361,23 @@ pub start_paid : (a : Aim) (r : ℕ) (w : World) (e : Entry) (role : Role) (ms :
     → Started a a.d (carried w a.d (append (passing (w.desks a.d)) e role ms)) v
     → (v.desks a.d).stored.tried + cost a v ≤ r
 start_paid a r w e role ms v h low s =
-    let t = s.tried in
-    let same = ap (λ z. last_number z.stored (passing z)) (put_self w.desks a.d (adopt x p)) in
-    let c = cost_started a a.d u v s in
-    let pays = cost_pays a u w longer low in
-    let p1 = h.promised a.d a.mine in
-    let t1 = h.tried in
-    let s1 = h.seen in omega (arith, t, same, c, pays, p1, t1, s1)
-  where
-    x : Desk
-    x = w.desks a.d
-
-    p : Plan
-    p = append (passing x) e role ms
-
-    u : World
-    u = carried w a.d p
-
-    longer : length x.log < length (u.desks a.d).log
-    longer =
-        let q = ap (λ z. length z.log) (put_self w.desks a.d (adopt x p)) in
-        let l = length-append x.log (e ∷ []) in omega (arith, q, l)
+    let x : Desk = w.desks a.d in
+    let p : Plan = append (passing x) e role ms in
+    let u : World = carried w a.d p in
+    let longer : length x.log < length (u.desks a.d).log = let q = ap (λ z. length z.log)
+    (put_self w.desks a.d (adopt x p)) in let l = length-append x.log (e ∷ []) in omega
+    (arith, q, l) in
+    omega (
+      arith,
+      s.tried,
+      ap (λ z. last_number z.stored (passing z))
+          (put_self w.desks a.d (adopt x p)),
+      cost_started a a.d u v s,
+      cost_pays a u w longer low,
+      h.promised a.d a.mine,
+      h.tried,
+      h.seen,
+    )
 
 -- once the entry is decided, a Start of desk d takes nothing away
 pub decided_started : (a : Aim) (u v : World) → Started a a.d u v → IsDecided a u
@@ -472,11 +390,9 @@ decided_started a u v s h low =
       at = h.at;
       past = h.past;
       entry = ap (λ l. slice_get l h.at) (s.logs a.d) ∙ h.entry;
-      lens = λ j i. let e = ap (λ z. length z) (s.logs j) in let l = h.lens j i in omega
-          (arith, e, l);
+      lens = λ j i. omega (arith, ap (λ z. length z) (s.logs j), h.lens j i);
       promised = λ j i. let e = ap (λ q. q.number) (s.promised j) in let l = h.promised j i in
           let c = cost_started a a.d u v s in omega (arith, e, l, c);
       tried = low;
-      seen = let e = s.seen a.d in let l = h.seen in let c = cost_started a a.d u v s in omega
-          (arith, e, l, c);
+      seen = omega (arith, s.seen a.d, h.seen, cost_started a a.d u v s);
     }

@@ -1,25 +1,17 @@
 -- Desk d has asked for votes, and hears the desks one after the other: it gives way, or it leads.
 use Rattle.std.proofs.Common.{◌≡◌, ℕ, suc, ◌≤◌, ◌<◌, ◌+◌, ◌*◌, ◌||◌, max, Bool, true, false}
-use Rattle.std.proofs.Common.{if◌then◌else◌, ◌==◌, nat_lt, List, [], ◌∷◌, ◌⊎◌, inl, inr, Some}
-use Rattle.std.proofs.Common.{None, length, refl, sym, ap, ◌∙◌, subst, arith, length-append}
-use Rattle.std.proofs.lemmas.Bool.Decides.{nat_tests}
-use Rattle.std.proofs.lemmas.Slice.Eq.{bytes_eq-Decides}
-use Rattle.acceptor.specs.declared.ballot.Ballot.{Ballot}
-use Rattle.acceptor.specs.Ballots.{is_below}
-use Rattle.acceptor.specs.declared.entry.Entry.{Entry}
-use Rattle.acceptor.specs.Entries.{is_same_entry}
+use Rattle.std.proofs.Common.{if◌then◌else◌, ◌==◌, nat_lt, List, [], ◌∷◌, ◌⊎◌, inl, inr, Some, None}
+use Rattle.std.proofs.Common.{length, refl, sym, ap, ◌∙◌, subst, arith, length-append}
+use Rattle.std.proofs.lemmas.{Bool.Decides.nat_tests, Slice.Eq.bytes_eq-Decides}
+use Rattle.acceptor.specs.declared.{ballot.Ballot.Ballot, entry.Entry.Entry}
+use Rattle.acceptor.specs.{Ballots.is_below, Entries.is_same_entry, Messages.message, Messages.has}
 use Rattle.acceptor.specs.declared.message.Body.TheVariants.{Accept, Accepted, Nack, Decided}
-use Rattle.acceptor.specs.declared.message.Message.{Message}
-use Rattle.acceptor.specs.Messages.{message, has, to_others}
+use Rattle.acceptor.specs.{declared.message.Message.Message, Messages.to_others}
 use Rattle.proposer.specs.declared.role.Role.TheVariants.{Idle, Proposing, Leading}
-use Rattle.proposer.specs.declared.plan.Plan.{Plan}
+use Rattle.proposer.specs.{declared.plan.Plan.Plan, Proposing.is_majority}
 use Rattle.proposer.specs.Plans.{append, become}
-use Rattle.proposer.specs.Proposing.{is_majority}
-use Rattle.learner.specs.Chosen.{Has, IsDistinct}
-use Rattle.learner.specs.Desks.{Desk, adopt, passing}
-use Rattle.learner.specs.Order.{IsAtMost, IsBelow}
-use Rattle.learner.specs.Steps.{on_body}
-use Rattle.learner.specs.Worlds.{World}
+use Rattle.learner.specs.{Chosen.Has, Chosen.IsDistinct, Desks.Desk, Desks.adopt, Desks.passing}
+use Rattle.learner.specs.{Order.IsAtMost, Order.IsBelow, Steps.on_body, Worlds.World}
 use Rattle.learner.proofs.Order.{at_most_self}
 use Rattle.progress.proofs.Aims.{Aim, lack, cost, cost_less, IsReached, Decides, decides_here}
 use Rattle.progress.proofs.Aims.{decides_more, carried, put_at, put_same, put_self, IsPending}
@@ -34,19 +26,16 @@ use Rattle.progress.proofs.Levels.{desks_same, Level, levels, take_one}
 -- of the desks none has promised a ballot above this one, and none has a longer log
 abbrev pub IsClear : Aim → Ballot → ℕ → World → Type 0
 IsClear a b m w =
-    (k : ℕ) → Has a.desks k
-    → IsAtMost (w.desks k).stored.promised b × (length (w.desks k).log ≤ m)
+    (k : ℕ) → Has a.desks k → IsAtMost (w.desks k).stored.promised b × (length (w.desks k).log ≤ m)
 
 pub clear_level : (a : Aim) (r : ℕ) (b : Ballot) (k m : ℕ) (w v : World) → Level a r k m w v
     → IsClear a b m w → IsClear a b m v
-clear_level a r b k m w v l h j i =
-    (subst (λ (q : Ballot). IsAtMost q b) (sym (l.promised j)) (h j i).0, go (k == j) refl)
+clear_level a r b k m w v l h j i = (rw (l.promised j) (h j i).0, go (k == j) refl)
   where
     go : (t : Bool) → (k == j) ≡ t → length (v.desks j).log ≤ m
     go true t =
         let s : k ≡ j = grind (arith, nat_tests) in
-        let e = ap (λ z. length (v.desks z).log) s in
-        let o = l.here in omega (arith, e, o)
+        omega (arith, ap (λ z. length (v.desks z).log) s, l.here)
     go false t =
         let e = ap (λ z. length z.log) (l.others j (λ s. grind (arith, nat_tests))) in
         let o = (h j i).1 in omega (arith, e, o)
@@ -87,8 +76,7 @@ pub record Yields (a : Aim) (r : ℕ) (C : Type 0) (v : World) : Type 0 where
 -- it leads, or has asked all for their votes for its first entry by a Start
 abbrev pub LeadsOrAsks : Aim → Ballot → ℕ → World → Type 0
 LeadsOrAsks a b m v =
-    ((v.desks a.d).role ≡ Leading b)
-    ⊎ (((v.desks a.d).role ≡ Proposing b m a.first [])
+    ((v.desks a.d).role ≡ Leading b) ⊎ (((v.desks a.d).role ≡ Proposing b m a.first [])
     × ((k : ℕ) → Has a.desks k → IsPending a v (message a.d k (Accept b m a.first))))
 
 -- another entry than its first was decided, and it leads on
@@ -134,10 +122,8 @@ old_of a m f t h =
 -- a desk with a longer log tells the entry there
 taught : (a : Aim) (c r : ℕ) (C : Type 0) (b : Ballot) (m : ℕ) (f : Entry) (k : ℕ)
     (ks heard : List ℕ) (w : World) → Asks a r C b m f (k ∷ ks) heard w → m < length (w.desks k).log
-    → ((v : World) → Yields a r C v → Decides a (lack a v + c) v)
-    → Decides a (lack a w + suc c) w
-taught a c r C b m f k ks heard w g longer yields =
-    told (accept_past a.n a.d k x b m f longer)
+    → ((v : World) → Yields a r C v → Decides a (lack a v + c) v) → Decides a (lack a w + suc c) w
+taught a c r C b m f k ks heard w g longer yields = told (accept_past a.n a.d k x b m f longer)
   where
     fit : Fit a r w
     fit = g.fit
@@ -151,26 +137,20 @@ taught a c r C b m f k ks heard w g longer yields =
     told : (y : Entry) × (on_body a.n k x a.d (Accept b m f) ≡ tells x k a.d m y)
         → Decides a (lack a w + suc c) w
     told t =
+        let ms : List Message = message k a.d (Decided m t.0) ∷ [] in
+        let u : World = carried w k (tells x k a.d m t.0) in
         comes a c w (message a.d k (Accept b m f)) (tells x k a.d m t.0) fit.reached a.mine i
-        (g.asked k (inl refl)) t.1 (omega arith)
-        (λ reached1. take_one a c r k m u t.0 i
+        (g.asked k (inl refl)) t.1 (omega arith) (λ reached1. take_one a c r k m u t.0 i
         (fit_plain a r w k x.seen None ms fit i reached1 (seen_at a r w k fit))
         (ap (λ z. length z.log) (desks_same w k ms a.d) ∙ g.own)
         (let l = fit.lens k i in omega (arith, l, longer))
         (pending_new a w k (tells x k a.d m t.0) 0 (message k a.d (Decided m t.0)) fit.late refl)
-        (λ v q p. decides_more a (lack a v + c) (lack a v + suc c) v (omega arith)
-        (yields v
+        (λ v q p. decides_more a (lack a v + c) (lack a v + suc c) v (omega arith) (yields v
         (record {
           fit = q.fit;
           free = q.free;
           against = λ z. let l = (g.clear z k i).1 in omega (arith, l, longer);
         }))))
-      where
-        ms : List Message
-        ms = message k a.d (Decided m t.0) ∷ []
-
-        u : World
-        u = carried w k (tells x k a.d m t.0)
 
 -- a desk that has promised a higher ballot refuses
 outbid : (a : Aim) (c r : ℕ) (C : Type 0) (b : Ballot) (m : ℕ) (f : Entry) (k : ℕ)
@@ -179,16 +159,14 @@ outbid : (a : Aim) (c r : ℕ) (C : Type 0) (b : Ballot) (m : ℕ) (f : Entry) (
     → ((v : World) → Yields a r C v → Decides a (lack a v + c) v)
     → Decides a (lack a w + suc (suc c)) w
 outbid a c r C b m f k ks heard w g here high yields =
+    let v : World = carried u a.d (gives_up (u.desks a.d) q.number) in
     comes a (suc c) w (message a.d k (Accept b m f)) (refuses x k a.d b m) fit.reached a.mine i
     (g.asked k (inl refl)) (outvoted_at a.n a.d k x b m f here high) (omega arith)
     (λ reached1. comes a c u (message k a.d (Nack b m q)) (gives_up (u.desks a.d) q.number) reached1
-    i a.mine
-    (pending_new a w k (refuses x k a.d b m) 0 (message k a.d (Nack b m q)) fit.late refl)
+    i a.mine (pending_new a w k (refuses x k a.d b m) 0 (message k a.d (Nack b m q)) fit.late refl)
     (nack_heard a.n a.d k (u.desks a.d) b m q
     (is_own_proposing (u.desks a.d) b m f heard (ap (λ z. z.role) (desks_same w k ms a.d) ∙ g.role))
-    high) (omega arith)
-    (λ reached2. yields v
-    (record {
+    high) (omega arith) (λ reached2. yields v (record {
       fit = fit_plain a r u a.d (max (u.desks a.d).seen q.number) (Some Idle) [] (fit1 reached1)
           a.mine reached2
           (λ s. let l = low_more a r q.number w k (refuses x k a.d b m) (fit.promised k i) in
@@ -216,9 +194,6 @@ outbid a c r C b m f k ks heard w g here high yields =
     u : World
     u = carried w k (refuses x k a.d b m)
 
-    v : World
-    v = carried u a.d (gives_up (u.desks a.d) q.number)
-
     fit1 : IsReached a.n u → Fit a r u
     fit1 reached1 = fit_plain a r w k x.seen None ms fit i reached1 (seen_at a r w k fit)
 
@@ -228,19 +203,15 @@ head_or e (x ∷ xs) = x
 
 -- what it has asked for by a Start is its first entry
 asked_first : (a : Aim) (b : Ballot) (m : ℕ) (u v : World) → HasAsked a b u v
-    → (u.desks a.d).queue ≡ a.first ∷ a.rest → length (u.desks a.d).log ≡ m
-    → LeadsOrAsks a b m v
+    → (u.desks a.d).queue ≡ a.first ∷ a.rest → length (u.desks a.d).log ≡ m → LeadsOrAsks a b m v
 unfolding head_or
 asked_first a b m u v h queue long =
+    let same : h.entry ≡ a.first = ap (λ q. head_or a.first q) (sym h.queue ∙ queue) in
     inr (
       h.role ∙ ap (λ l. Proposing b l h.entry []) long ∙ ap (λ e. Proposing b m e []) same,
       λ k i. subst (λ (e : Entry). IsPending a v (message a.d k (Accept b m e))) same
-          (subst (λ (l : ℕ). IsPending a v (message a.d k (Accept b l h.entry))) long
-          (h.asked k i)),
+          (rw long at (h.asked k i)),
     )
-  where
-    same : h.entry ≡ a.first
-    same = ap (λ q. head_or a.first q) (sym h.queue ∙ queue)
 
 -- desk d has won the votes for an entry at this position, and may have started
 record Won (a : Aim) (r : ℕ) (C : Type 0) (b : Ballot) (m : ℕ) (f : Entry) (u : World)
@@ -284,15 +255,18 @@ won a c r C b m f u ms v h yields leads = go (is_same_entry a.first f) refl
 
     long : length (y.desks a.d).log ≡ suc m
     long =
-        let q = ap (λ x. length x.log) (put_self u.desks a.d (adopt z p)) in
-        let l = length-append z.log (f ∷ []) in
-        let o = h.own in omega (arith, q, l, o)
+        omega (
+          arith,
+          ap (λ x. length x.log) (put_self u.desks a.d (adopt z p)),
+          length-append z.log
+              (f ∷ []),
+          h.own,
+        )
 
     clear1 : C → IsClear a b (suc m) y
     clear1 t =
         clear_at a b m (suc m) u a.d p (h.clear t a.d a.mine).0
-        (let l = length-append z.log (f ∷ []) in let o = h.own in omega (arith, l, o))
-        (omega arith) (h.clear t)
+        (omega (arith, length-append z.log (f ∷ []), h.own)) (omega arith) (h.clear t)
 
     clear2 : C → IsClear a b (suc m) v
     clear2 t j i = (
@@ -317,14 +291,12 @@ won a c r C b m f u ms v h yields leads = go (is_same_entry a.first f) refl
 
         led : LeadsOrAsks a b (suc m) v → Decides a (lack a v + c) v
         led role =
-            leads
-            (record {
+            leads (record {
               fit = fit2;
               role = role;
               own = ap (λ l. length l) (s.logs a.d) ∙ long;
               low = old_of a m f t h.old;
-              number = let l = low_more a r b.number u a.d p h.low in
-                  let e = cost_started a a.d y v s in omega (arith, l, e);
+              number = omega (arith, low_more a r b.number u a.d p h.low, cost_started a a.d y v s);
               clear = clear2;
             }) t
 
@@ -332,12 +304,10 @@ won a c r C b m f u ms v h yields leads = go (is_same_entry a.first f) refl
         by_role (inl role) = led (inl role)
         by_role (inr (inl asked)) = led (asked_first a b (suc m) y v asked fit1.queue long)
         by_role (inr (inr outbid)) =
-            yields
-            (record {
+            yields (record {
               fit = fit2;
               free = outbid.0;
-              against = λ q. let l = (clear1 q a.d a.mine).0 in
-                  let high = outbid.1 in grind (arith, l, high);
+              against = λ q. grind (arith, (clear1 q a.d a.mine).0, outbid.1);
             })
 
 -- a desk votes
@@ -388,8 +358,7 @@ votes a c r C b m f k ks heard w g here low yields leads again =
     fit1 : IsReached a.n u → Fit a r u
     fit1 reached1 =
         fit_voted a r w k (record { pos = m; ballot = b; entry = f })
-        (message k a.d (Accepted b m) ∷ []) fit i
-        reached1 g.low g.old
+        (message k a.d (Accepted b m) ∷ []) fit i reached1 g.low g.old
 
     others : List Message
     others = to_others a.n a.d (Decided m f)
@@ -413,8 +382,7 @@ votes a c r C b m f k ks heard w g here low yields leads again =
         → Decides a (lack a u + suc c) u
     count h true t =
         wins a c u k m b f others h.reached h.late i told (plan true t)
-        (λ v s l. won a c r C b m f u others v
-        (record {
+        (λ v s l. won a c r C b m f u others v (record {
           fit = h;
           own = own1;
           low = low1;
@@ -425,9 +393,7 @@ votes a c r C b m f k ks heard w g here low yields leads again =
         }) (λ y. yields v y) (λ q e. leads v q e))
     count h false t =
         comes a c u (message k a.d (Accepted b m)) waiting h.reached i a.mine told (plan false t)
-        (omega arith)
-        (λ reached2. again (k ∷ heard) (carried u a.d waiting)
-        (record {
+        (omega arith) (λ reached2. again (k ∷ heard) (carried u a.d waiting) (record {
           fit = fit_plain a r u a.d z.seen (Some (Proposing b m f (k ∷ heard))) [] h a.mine reached2
               (λ s. h.seen);
           role = ap (λ y. y.role) (put_self u.desks a.d (adopt z waiting));
@@ -494,8 +460,7 @@ hear_one a c r C b m f k ks heard w g yields leads again = go (nat_lt m (length 
     go false t =
         decides_more a (lack a w + suc (suc (suc c))) (lack a w + (3 + c)) w (omega arith)
         (levels a (suc c) r k m w (Accept b m f) i fit g.own (grind (arith, nat_tests))
-        (g.asked k (inl refl))
-        (λ x less. accept_ahead a.n a.d k x b m f less)
+        (g.asked k (inl refl)) (λ x less. accept_ahead a.n a.d k x b m f less)
         (λ v l. at v l (is_below b (v.desks k).stored.promised) refl))
 
 -- all are heard, until it gives way or leads
@@ -508,11 +473,7 @@ pub hear_all : (a : Aim) (c r : ℕ) (C : Type 0) (b : Ballot) (m : ℕ) (f : En
 hear_all a c r C b m f yields leads [] heard w g =
     let few = g.few in let enough = g.enough in absurd (grind (arith, nat_tests, few, enough))
 hear_all a c r C b m f yields leads (k ∷ ks) heard w g =
-    decides_more a (lack a w + (3 + (3 * length ks + c))) (lack a w + (3 * length (k ∷ ks) + c)) w
-    (omega arith)
-    (hear_one a (3 * length ks + c) r C b m f k ks heard w g
-    (λ v y. decides_more a (lack a v + c) (lack a v + (3 * length ks + c)) v (omega arith)
-    (yields v y))
-    (λ v l s. decides_more a (lack a v + c) (lack a v + (3 * length ks + c)) v (omega arith)
-    (leads v l s))
-    (λ more v h. hear_all a c r C b m f yields leads ks more v h))
+    decides_more a _ _ w (omega arith) (hear_one a _ r C b m f k _ _ w g
+    (λ v y. decides_more a _ _ v (omega arith) (yields v y))
+    (λ v l s. decides_more a _ _ v (omega arith) (leads v l s))
+    (λ more v h. hear_all a c r C b m f yields leads _ _ v h))

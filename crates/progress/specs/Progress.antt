@@ -4,13 +4,9 @@
 -- own).
 use Rattle.std.specs.Prelude.{ℕ, suc, ◌≡◌, ◌≤◌, ◌<◌, ◌+◌, ◌-◌, ◌*◌, max, List, [], ◌∷◌, ◌++◌}
 use Rattle.std.specs.Prelude.{Option, Some, None, length, slice_get}
-use Rattle.acceptor.specs.declared.entry.Entry.{Entry}
-use Rattle.acceptor.specs.declared.message.Message.{Message}
-use Rattle.learner.specs.declared.event.WorldEvent.{WorldEvent}
-use Rattle.learner.specs.declared.event.WorldEvent.TheVariants.{Submit as SubmitAt}
-use Rattle.learner.specs.declared.event.WorldEvent.TheVariants.{Start as StartAt, Tick as TickAt}
+use Rattle.acceptor.specs.declared.{entry.Entry.Entry, message.Message.Message}
+use Rattle.learner.specs.declared.event.WorldEvent.{WorldEvent, TheVariants.Tick as TickAt}
 use Rattle.learner.specs.declared.event.WorldEvent.TheVariants.{Deliver as DeliverNth}
-use Rattle.learner.specs.declared.event.WorldEvent.TheVariants.{Restart as RestartAt}
 use Rattle.learner.specs.Chosen.{Has, IsMajority}
 use Rattle.learner.specs.Worlds.{World, nth_sent, happens, run, after}
 
@@ -22,11 +18,9 @@ IsAmong desks (Some m) = Has desks m.from × Has desks m.to
 -- desk d ticks, or a message comes that was sent after the first `start`, from one of these desks
 -- to one of these
 abbrev pub IsHelp : ℕ → List ℕ → ℕ → World → WorldEvent → Type 0
-IsHelp d desks start w (SubmitAt k e) = ⊥
-IsHelp d desks start w (StartAt k) = ⊥
 IsHelp d desks start w (TickAt k) = k ≡ d
 IsHelp d desks start w (DeliverNth k) = (start < k) × IsAmong desks (nth_sent w.sent k)
-IsHelp d desks start w (RestartAt k) = ⊥
+IsHelp d desks start w _ = ⊥
 
 -- each of the events is, in the world in which it happens
 abbrev pub AreHelp : ℕ → ℕ → List ℕ → ℕ → World → List WorldEvent → Type 0
@@ -67,8 +61,7 @@ pub record CanDecide (n d : ℕ) (desks : List ℕ) (w : World) (es rest : List 
 -- promised, and that desk d has tried or seen, twice as many are left
 pub record HasRoom (d : ℕ) (desks : List ℕ) (w : World) (count : ℕ) : Type 0 where
   pub logs : (k : ℕ) → Has desks k → length (w.desks k).log + 2 * count ≤ 65536
-  pub promised : (k : ℕ)
-      → Has desks k → (w.desks k).stored.promised.number + 2 * count ≤ 4294967295
+  pub promised : (k : ℕ) → Has desks k → (w.desks k).stored.promised.number + 2 * count ≤ 4294967295
   pub tried : (w.desks d).stored.tried + 2 * count ≤ 4294967295
   pub seen : (w.desks d).seen + 2 * count ≤ 4294967295
 

@@ -2,16 +2,12 @@
 -- higher ballot than the others, and one has an old vote, and most of what they sent was lost (the
 -- project's own). So the laws say something of it; and here are the turns.
 use Rattle.std.specs.Prelude.{ℕ, ◌≡◌, List, [], ◌∷◌, Some, None}
-use Rattle.acceptor.specs.declared.ballot.Ballot.{Ballot}
-use Rattle.acceptor.specs.declared.entry.Entry.{Entry}
+use Rattle.acceptor.specs.declared.{ballot.Ballot.Ballot, entry.Entry.Entry}
 use Rattle.proposer.specs.declared.role.Role.TheVariants.{Gathering, Idle, Proposing}
-use Rattle.learner.specs.Chosen.{Has, IsMajority}
-use Rattle.learner.specs.Desks.{Desk}
-use Rattle.learner.specs.Worlds.{World, after}
-use Rattle.learner.specs.declared.event.WorldEvent.{WorldEvent}
-use Rattle.learner.specs.declared.event.WorldEvent.TheVariants.{Submit as SubmitAt}
+use Rattle.learner.specs.{Chosen.Has, Chosen.IsMajority, Worlds.World, Worlds.after}
+use Rattle.learner.specs.{Desks.Desk, declared.event.WorldEvent.TheVariants.Deliver as DeliverNth}
+use Rattle.learner.specs.declared.event.WorldEvent.{WorldEvent, TheVariants.Submit as SubmitAt}
 use Rattle.learner.specs.declared.event.WorldEvent.TheVariants.{Start as StartAt, Tick as TickAt}
-use Rattle.learner.specs.declared.event.WorldEvent.TheVariants.{Deliver as DeliverNth}
 use Rattle.learner.specs.declared.event.WorldEvent.TheVariants.{Restart as RestartAt}
 use Rattle.progress.specs.Progress.{HasRoom, CanDecide}
 use Rattle.progress.specs.Turns.{HasTurnRoom, TurnsDecide, AreTurns, take_turns}
@@ -33,8 +29,7 @@ tangle =
     -- desk 2 makes a higher ballot, which it and desk 3 promise; both promises are lost
     ∷ SubmitAt 2 (entry 8) ∷ TickAt 2 ∷ DeliverNth 11 ∷ DeliverNth 12
     -- desk 1 makes a ballot, promises it, and restarts, which loses its queue
-    ∷ SubmitAt 1 (entry 9) ∷ StartAt 1 ∷ DeliverNth 15 ∷ RestartAt 1
-    ∷ SubmitAt 1 (entry 9) ∷ []
+    ∷ SubmitAt 1 (entry 9) ∷ StartAt 1 ∷ DeliverNth 15 ∷ RestartAt 1 ∷ SubmitAt 1 (entry 9) ∷ []
 
 abbrev pub tangled : World
 tangled = after 3 tangle

@@ -1,19 +1,13 @@
 -- That no desk is stuck, of desks that serve (the project's own). A desk that serves gives itself a
--- Start after an event by which its log has grown. What it says to itself comes as any message does.
+-- Start after an event by which its log has grown. What it says to itself comes as a message does.
 use Rattle.std.specs.Prelude.{ℕ, ◌≡◌, ◌≤◌, ◌+◌, ◌-◌, ◌*◌, ◌&&◌, nat_lt, Bool, if◌then◌else◌, List}
 use Rattle.std.specs.Prelude.{[], ◌∷◌, ◌++◌, Option, Some, None, length}
-use Rattle.acceptor.specs.declared.entry.Entry.{Entry}
-use Rattle.acceptor.specs.declared.message.Message.{Message}
-use Rattle.learner.specs.Chosen.{Has, IsMajority}
-use Rattle.learner.specs.Desks.{Desk}
-use Rattle.learner.specs.Worlds.{World, at_desk, nth_sent, after}
-use Rattle.learner.specs.declared.event.DeskEvent.{DeskEvent}
+use Rattle.acceptor.specs.declared.{entry.Entry.Entry, message.Message.Message}
+use Rattle.learner.specs.{Chosen.Has, Chosen.IsMajority, Worlds.at_desk, Worlds.nth_sent}
+use Rattle.learner.specs.{Desks.Desk, Worlds.World, declared.event.DeskEvent.DeskEvent}
+use Rattle.learner.specs.{Worlds.after, declared.event.WorldEvent.TheVariants.Deliver as DeliverNth}
 use Rattle.learner.specs.declared.event.DeskEvent.TheVariants.{Start, Tick, Deliver}
-use Rattle.learner.specs.declared.event.WorldEvent.{WorldEvent}
-use Rattle.learner.specs.declared.event.WorldEvent.TheVariants.{Submit as SubmitAt}
-use Rattle.learner.specs.declared.event.WorldEvent.TheVariants.{Start as StartAt, Tick as TickAt}
-use Rattle.learner.specs.declared.event.WorldEvent.TheVariants.{Deliver as DeliverNth}
-use Rattle.learner.specs.declared.event.WorldEvent.TheVariants.{Restart as RestartAt}
+use Rattle.learner.specs.declared.event.WorldEvent.{WorldEvent, TheVariants.Tick as TickAt}
 use Rattle.progress.specs.Progress.{IsHelp, StandFrom, longest, enough}
 
 -- ---- a turn
@@ -36,11 +30,9 @@ turn_of n w (Some m) = turn n w m.to (Deliver m)
 
 -- a Tick or a message is taken so; other events are no turns
 abbrev pub takes_turn : ℕ → World → WorldEvent → World
-takes_turn n w (SubmitAt d e) = w
-takes_turn n w (StartAt d) = w
 takes_turn n w (TickAt d) = turn n w d Tick
 takes_turn n w (DeliverNth k) = turn_of n w (nth_sent w.sent k)
-takes_turn n w (RestartAt d) = w
+takes_turn n w _ = w
 
 abbrev pub take_turns : ℕ → World → List WorldEvent → World
 take_turns n w [] = w
@@ -86,5 +78,4 @@ abbrev pub NoServingDeskIsStuck : Type 0
 NoServingDeskIsStuck =
     (n : ℕ) (past : List WorldEvent) (d : ℕ) (desks : List ℕ) (es rest : List Entry)
     → IsMajority n desks → Has desks d → ((after n past).desks d).queue ≡ es ++ rest
-    → HasTurnRoom d desks (after n past) (length es)
-    → TurnsDecide n d desks (after n past) es rest
+    → HasTurnRoom d desks (after n past) (length es) → TurnsDecide n d desks (after n past) es rest

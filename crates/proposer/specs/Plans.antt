@@ -1,13 +1,9 @@
 -- What a desk loses at a restart, and what a step plans to change and to send (the project's own).
 use Rattle.std.specs.Prelude.{ℕ, max, Bool, false, if◌then◌else◌, ◌≡◌, List, [], ◌∷◌, Option, Some}
 use Rattle.std.specs.Prelude.{None}
-use Rattle.acceptor.specs.declared.entry.Entry.{Entry}
-use Rattle.acceptor.specs.Entries.{is_same_entry}
-use Rattle.acceptor.specs.declared.message.Message.{Message}
-use Rattle.acceptor.specs.declared.stored.Change.TheVariants.{Appended}
-use Rattle.proposer.specs.declared.plan.Plan.{Plan}
-use Rattle.proposer.specs.declared.role.Role.{Role}
-use Rattle.proposer.specs.declared.role.Role.TheVariants.{Idle}
+use Rattle.acceptor.specs.declared.{entry.Entry.Entry, message.Message.Message}
+use Rattle.acceptor.specs.{Entries.is_same_entry, declared.stored.Change.TheVariants.Appended}
+use Rattle.proposer.specs.declared.{plan.Plan.Plan, role.Role.Role, role.Role.TheVariants.Idle}
 
 -- what a desk loses at a restart
 pub record Passing : Type 0 where

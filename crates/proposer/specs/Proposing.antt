@@ -2,24 +2,18 @@
 -- the count of votes of section 2.3. A ballot that a majority has promised serves later positions
 -- too, as phase 1 does in section 3. In these, desk d of n has s in store, a log of length len, and
 -- p as long as it runs.
-use Rattle.std.specs.Prelude.{ℕ, ◌*◌, ◌+◌, max, Bool, false, not, if◌then◌else◌, List, [], ◌∷◌}
-use Rattle.std.specs.Prelude.{◌++◌, Option, Some, None, Result, Ok, Err, ◌==◌, nat_lt, nat_le}
-use Rattle.std.specs.Prelude.{length}
+use Rattle.std.specs.Prelude.{ℕ, Bool, false, if◌then◌else◌, Option, Result, nat_lt, nat_le, length}
+use Rattle.std.specs.Prelude.{◌*◌, ◌+◌, max, not, List, [], ◌∷◌, ◌++◌, Some, None, Ok, Err, ◌==◌}
 use Rattle.std.specs.List.{list_any}
-use Rattle.acceptor.specs.declared.ballot.Ballot.{Ballot}
-use Rattle.acceptor.specs.declared.entry.Entry.{Entry}
-use Rattle.acceptor.specs.declared.message.Report.{Report}
+use Rattle.acceptor.specs.declared.{ballot.Ballot.Ballot, entry.Entry.Entry, message.Report.Report}
 use Rattle.acceptor.specs.declared.message.Body.TheVariants.{Prepare, Accept, Behind, Decided}
-use Rattle.acceptor.specs.declared.stored.Stored.{Stored}
-use Rattle.acceptor.specs.declared.stored.Change.TheVariants.{Tried}
+use Rattle.acceptor.specs.declared.stored.{Stored.Stored, Change.TheVariants.Tried}
 use Rattle.acceptor.specs.Ballots.{is_below, is_same}
 use Rattle.acceptor.specs.Messages.{has, desks_from, without, to_each, to_all, to_others}
-use Rattle.proposer.specs.declared.fault.Refusal.{Refusal}
+use Rattle.proposer.specs.declared.{fault.Refusal.Refusal, plan.Plan.Plan}
 use Rattle.proposer.specs.declared.fault.Refusal.TheVariants.{Busy, LogFull, BallotsSpent}
-use Rattle.proposer.specs.declared.role.PromisingDesk.{PromisingDesk}
-use Rattle.proposer.specs.declared.role.Role.{Role}
+use Rattle.proposer.specs.declared.role.{PromisingDesk.PromisingDesk, Role.Role}
 use Rattle.proposer.specs.declared.role.Role.TheVariants.{Idle, Gathering, Proposing, Leading}
-use Rattle.proposer.specs.declared.plan.Plan.{Plan}
 use Rattle.proposer.specs.Plans.{Passing, only_say, become, append, give_way}
 
 -- a log holds 65,536 entries
@@ -180,9 +174,7 @@ promise_by_role n d p (Gathering own at heard) from b pos vote =
     else promises_heard n d p own at (record { desk = from; vote = vote } ∷ heard))
     else only_say p [])
     else only_say p []
-promise_by_role n d p Idle from b pos vote = only_say p []
-promise_by_role n d p (Proposing own at e heard) from b pos vote = only_say p []
-promise_by_role n d p (Leading own) from b pos vote = only_say p []
+promise_by_role n d p _ from b pos vote = only_say p []
 
 abbrev pub on_promise : ℕ → ℕ → Passing → ℕ → Ballot → ℕ → Option Report → Plan
 on_promise n d p from b pos vote = promise_by_role n d p p.role from b pos vote
@@ -203,9 +195,7 @@ accepted_by_role n d p (Proposing own at e heard) from b pos =
     then (if has heard from then only_say p [] else votes_heard n d p own at e (from ∷ heard))
     else only_say p [])
     else only_say p []
-accepted_by_role n d p Idle from b pos = only_say p []
-accepted_by_role n d p (Gathering own at heard) from b pos = only_say p []
-accepted_by_role n d p (Leading own) from b pos = only_say p []
+accepted_by_role n d p _ from b pos = only_say p []
 
 abbrev pub on_accepted : ℕ → ℕ → Passing → ℕ → Ballot → ℕ → Plan
 on_accepted n d p from b pos = accepted_by_role n d p p.role from b pos

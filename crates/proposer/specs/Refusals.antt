@@ -1,9 +1,7 @@
 -- How the answer of a call goes with the step that it stands for (the project's own).
 use Rattle.std.specs.Prelude.{◌≡◌, ◌↔◌, Result, Ok, Err, IfOk, IsErrOf}
-use Rattle.proposer.specs.declared.fault.Refusal.{Refusal}
-use Rattle.proposer.specs.declared.fault.StepFault.{StepFault}
-use Rattle.proposer.specs.declared.fault.StepFault.TheVariants.{Refused}
-use Rattle.proposer.specs.declared.plan.Plan.{Plan}
+use Rattle.proposer.specs.declared.{fault.Refusal.Refusal, plan.Plan.Plan}
+use Rattle.proposer.specs.declared.fault.StepFault.{StepFault, TheVariants.Refused}
 
 -- the plan of the call is that of the step
 abbrev pub PlansAs : Result Plan StepFault → Result Plan Refusal → Type 0

@@ -1,25 +1,23 @@
 -- A replay from line to line, and how it ends, in words on the whole input.
 use Rattle.std.proofs.Common.{◌≡◌, ℕ, ◌+◌, Bool, true, false, List, [], ◌∷◌, ◌++◌, length, fold}
-use Rattle.std.proofs.Common.{unwrap_or, is_some, Option, None, Some, refl, sym, ap, ◌∙◌}
+use Rattle.std.proofs.Common.{unwrap_or, is_some, Option, Some, refl, sym, ap, ap₂, ◌∙◌}
 use Rattle.std.proofs.Common.{append_assoc, append-nil, length-append, subst, add_comm, arith}
 use Rattle.std.specs.Prelude.{Result, Ok, Err, IfErr}
 use Rattle.std.proofs.KnownBytes.{Appends-trans, Appends-nil}
-use Rattle.std.specs.Io.KnownBytes.{Appends}
-use Rattle.std.specs.List.{enumerate_from}
+use Rattle.std.specs.{Io.KnownBytes.Appends, List.enumerate_from}
 use Rattle.commands.specs.History.{History, nothing, history, after, answer_to}
-use Rattle.lines.specs.Bytes.{Writes, AppendsPart, HasLeft}
-use Rattle.lines.specs.Lines.{lines_of, is_within, lines_read}
+use Rattle.lines.specs.{Bytes.Writes, Bytes.AppendsPart, declared.fault.RunFault.RunFault}
+use Rattle.lines.specs.{Bytes.HasLeft, Lines.lines_of, Lines.is_within, Lines.lines_read}
 use Rattle.lines.specs.Reading.{Reading, nothing_read, HasGiven, GivesLine, GivesFault, Gives}
-use Rattle.lines.specs.declared.fault.RunFault.{RunFault}
-use Rattle.lines.specs.declared.fault.RunFault.TheVariants as fault
-use Rattle.lines.proofs.Inputs.{given_of, left_of, left_is, has_read, has_all, part_front}
-use Rattle.lines.proofs.Inputs.{part_after, nothing_written, whole_written, waits_more, all_out}
-use Rattle.lines.proofs.Inputs.{part_out, still_waits, lines_above}
+use Rattle.lines.proofs.Inputs.{given_of, left_of, left_is, has_read, part_front, part_after}
+use Rattle.lines.proofs.Inputs.{nothing_written, whole_written, waits_more, all_out, part_out}
+use Rattle.lines.proofs.Inputs.{still_waits, lines_above}
 use Rattle.sheets.specs.Sheet.{sheet}
-use Rattle.replay.specs.declared.fault.ReplayFault.TheVariants as replay_fault
 use Rattle.replay.specs.Replay.{entries, refusal_text, refusals_after, refusals, Run, run_text}
 use Rattle.replay.specs.Replay.{run_sheet, Replays, ReplayFails}
 use Rattle.replay.specs.model.Applying.{Applies, StopsAmong}
+use Rattle.lines.specs.declared.fault.RunFault.TheVariants as fault
+use Rattle.replay.specs.declared.fault.ReplayFault.TheVariants as replay_fault
 
 -- ---- lines
 
@@ -30,8 +28,7 @@ enumerate_append : (n : ℕ) (xs ys : List (List ℕ))
     → enumerate_from n (xs ++ ys) ≡ enumerate_from n xs ++ enumerate_from (n + length xs) ys
 enumerate_append n [] ys = ap (λ m. enumerate_from m ys) (omega arith)
 enumerate_append n (x ∷ xs) ys =
-    ap (λ es. (n, x) ∷ es)
-    (enumerate_append (n + 1) xs ys
+    ap (λ es. (n, x) ∷ es) (enumerate_append (n + 1) xs ys
     ∙ ap (λ m. enumerate_from (n + 1) xs ++ enumerate_from m ys) (omega arith))
 
 refusals_append : (h : History) (es fs : List (ℕ × List ℕ))
@@ -55,22 +52,19 @@ entries_more lines line =
     enumerate_append 1 lines (line ∷ [])
     ∙ ap (λ n. entries lines ++ (n, line) ∷ []) (add_comm 1 (length lines))
 
-history_more : (lines : List (List ℕ)) (line : List ℕ)
-    → history (entries (lines ++ line ∷ []))
+pub history_more : (lines : List (List ℕ)) (line : List ℕ) → history (entries (lines ++ line ∷ []))
     ≡ after (history (entries lines)) (length lines + 1) line
 history_more lines line =
     ap history (entries_more lines line)
     ∙ histories_append nothing (entries lines) ((length lines + 1, line) ∷ [])
 
-refusals_more : (lines : List (List ℕ)) (line : List ℕ)
-    → refusals (lines ++ line ∷ [])
+refusals_more : (lines : List (List ℕ)) (line : List ℕ) → refusals (lines ++ line ∷ [])
     ≡ refusals lines ++ refusal_text (length lines + 1)
     (answer_to (history (entries lines)) (length lines + 1) line)
 refusals_more lines line =
     ap (refusals_after nothing) (entries_more lines line)
     ∙ refusals_append nothing (entries lines) ((length lines + 1, line) ∷ [])
-    ∙ ap (λ x. refusals lines ++ x)
-    (append-nil
+    ∙ ap (λ x. refusals lines ++ x) (append-nil
     (refusal_text (length lines + 1) (answer_to (history (entries lines)) (length lines + 1) line)))
 
 -- what is written for the first lines is the front of what is written for all
@@ -103,7 +97,7 @@ begins meet out start old is none read = record {
 }
 
 -- a line was given and applied
-pub one_more : (p q : Reading) (meet meet' : History) (line given out out' out'' : List ℕ)
+one_more : (p q : Reading) (meet meet' : History) (line given out out' out'' : List ℕ)
     (start before now old new new' : Option (List ℕ))
     → Applied p meet out given start before old new → (g : GivesLine q line given start now)
     → meet' ≡ after meet q.lines line
@@ -145,6 +139,24 @@ pub gives_true : (t : Bool) (p : Reading) (line given : List ℕ) (start now : O
 gives_true true p line given start now is h = h
 gives_true false p line given start now is h = cc
 
+-- a line was read, applied, and perhaps written
+pub one_line : (t : Bool) (p q : Reading) (meet meet' : History) (number : ℕ)
+    (text line given out out' out'' : List ℕ) (start before now old new new' : Option (List ℕ))
+    → Applied p meet out given start before old new → t ≡ true
+    → Gives (Ok t) q line given start now → number ≡ q.lines → text ≡ line
+    → meet' ≡ after meet number text
+    → out' ≡ out ++ refusal_text number (answer_to meet number text)
+    → (front : List ℕ) × Writes new new' out' front out''
+    → (more : List ℕ) × Applied q meet' out'' more start now old new'
+one_line t p q meet meet' number text line given out out' out'' start before now old new new' a is
+    gives count value after_it said w =
+    let g = gives_true t q line given start now is gives in (
+      given ++ g.more,
+      one_more p q meet meet' line given out out' out'' start before now old new new' a g
+          (after_it ∙ ap₂ (after meet) count value)
+          (said ∙ ap₂ (λ n x. out ++ refusal_text n (answer_to meet n x)) count value) w,
+    )
+
 -- ---- the end
 
 -- what holds of its error holds of a result that is one
@@ -165,24 +177,6 @@ part_of_whole p given start now old new h part =
           (part_front old new (refusals (lines_of given)) more.0 part),
     )
 
--- all lines were applied
-pub applies : (p : Reading) (meet : History) (out given : List ℕ)
-    (start now old before new : Option (List ℕ))
-    → Applied p meet out given start now old before → p.over ≡ true → Appends before new out
-    → (input : List ℕ) × HasLeft start input × Applies meet p.lines input now old new
-applies p meet out given start now old before new a over last =
-    let all = has_all p given start now a.read over in (
-      given,
-      all.0,
-      record {
-        end = all.1;
-        within = a.read.within;
-        meet_is = a.meet_is;
-        count_is = a.read.lines;
-        written = all_out old before new (refusals (lines_of given)) a.front out a.written last;
-      },
-    )
-
 -- the rest of what waits was not written whole
 pub unwritten : (p : Reading) (meet : History) (out given : List ℕ)
     (start now old before new : Option (List ℕ))
@@ -194,8 +188,7 @@ unwritten p meet out given start now old before new a part =
 
 -- memory ran out, and what waits was not written
 pub forgotten : (p : Reading) (meet : History) (out given : List ℕ)
-    (start now old new : Option (List ℕ))
-    → Applied p meet out given start now old new
+    (start now old new : Option (List ℕ)) → Applied p meet out given start now old new
     → (input : List ℕ) × HasLeft start input × AppendsPart old new (refusals (lines_read input))
 forgotten p meet out given start now old new a =
     part_of_whole p given start now old new a.read
@@ -235,9 +228,7 @@ stops fault.NoMemory p meet out given start before now old between new a f last 
     part_of_whole p given start before old new a.read
     (whole_written old new (refusals (lines_of given))
     (all_out old between new (refusals (lines_of given)) a.front out a.written last))
-stops fault.Write p meet out given start before now old between new a f last = absurd f
-stops fault.BadCount p meet out given start before now old between new a f last = absurd f
-stops (fault.BadLine n) p meet out given start before now old between new a f last = absurd f
+stops _ p meet out given start before now old between new a f last = absurd f
 
 -- ---- the run
 
@@ -290,34 +281,8 @@ replays r meet count mid text a there written =
       written =
           subst (Appends r.old r.new)
           (ap (λ (o : Option (List ℕ)). refusals (lines_of r.input) ++ unwrap_or o []) (sym is)
-          ∙ sym (text_within r a.within))
-          (Appends-trans r.old mid r.new _ _ a.written written);
+          ∙ sym (text_within r a.within)) (Appends-trans r.old mid r.new _ _ a.written written);
     }
-
--- there is no sheet
-pub lacks : (r : Run) (meet : History) (count : ℕ) → Applies meet count r.input r.left r.old r.new
-    → sheet_is r meet count ≡ None → ReplayFails replay_fault.NoSuchRound r
-lacks r meet count a none =
-    let is : run_sheet r ≡ None = sym (same_sheet r meet count r.left r.new a) ∙ none in
-    record {
-      end = a.end;
-      within = a.within;
-      no_round = is;
-      written =
-          subst (Appends r.old r.new)
-          (sym (append-nil (refusals (lines_of r.input)))
-          ∙ ap (λ (o : Option (List ℕ)). refusals (lines_of r.input) ++ unwrap_or o []) (sym is)
-          ∙ sym (text_within r a.within))
-          a.written;
-    }
-
--- there was no memory for the sheet
-pub starves : (r : Run) (meet : History) (count : ℕ) → Applies meet count r.input r.left r.old r.new
-    → ReplayFails (replay_fault.Lines fault.NoMemory) r
-starves r meet count a =
-    subst (AppendsPart r.old r.new) (sym (text_within r a.within))
-    (part_front r.old r.new (refusals (lines_of r.input)) _
-    (whole_written r.old r.new (refusals (lines_of r.input)) a.written))
 
 -- the sheet was not written whole
 pub cut_off : (r : Run) (meet : History) (count : ℕ) (mid : Option (List ℕ)) (text : List ℕ)

@@ -1,22 +1,19 @@
 -- How a replay ends that writes the refused lines and the sheet to two places.
-use Rattle.std.proofs.Common.{◌≡◌, ℕ, List, [], Option, Some, ap, inl, inr, is_some, refl, sym}
-use Rattle.std.proofs.Common.{subst, unwrap_or, true, ◌∙◌}
-use Rattle.std.proofs.KnownBytes.{Keeps-refl}
+use Rattle.std.proofs.Common.{◌≡◌, ℕ, List, [], Option, Some, ap, inl, inr, is_some, refl, sym, ◌∙◌}
+use Rattle.std.proofs.{Common.subst, Common.unwrap_or, Common.true, KnownBytes.Keeps-refl}
 use Rattle.std.specs.Io.KnownBytes.{Appends, Keeps}
 use Rattle.commands.specs.History.{History}
-use Rattle.lines.specs.Bytes.{AppendsPart}
+use Rattle.lines.specs.{Bytes.AppendsPart, declared.fault.RunFault.RunFault}
 use Rattle.lines.specs.Lines.{is_within, lines_of}
-use Rattle.lines.specs.declared.fault.RunFault.{RunFault}
-use Rattle.lines.specs.declared.fault.RunFault.TheVariants as fault
 use Rattle.lines.proofs.Inputs.{left_is, left_of, nothing_written, whole_written}
 use Rattle.sheets.specs.Sheet.{sheet}
-use Rattle.formats.specs.declared.events.Event.{Event}
+use Rattle.formats.specs.declared.{events.Event.Event, styles.SheetStyle.SheetStyle as Style}
 use Rattle.replay.specs.Apart.{FailsApart, ReplaysApart, ReplaysPartApart, TellsPart, Told}
 use Rattle.replay.specs.Apart.{run_alone, run_refused}
-use Rattle.formats.specs.declared.styles.SheetStyle.{SheetStyle as Style}
 use Rattle.replay.specs.Replay.{Run, refusals, refused_text, run_sheet}
-use Rattle.replay.specs.declared.fault.ReplayFault.TheVariants as replay_fault
 use Rattle.replay.specs.model.Applying.{Applies, StopsAmong}
+use Rattle.lines.specs.declared.fault.RunFault.TheVariants as fault
+use Rattle.replay.specs.declared.fault.ReplayFault.TheVariants as replay_fault
 
 -- lines were not all applied
 pub stops_apart : (e : RunFault) (r : Run) (t : Told)
@@ -51,8 +48,7 @@ same_sheet : (r : Run) (t : Told) (meet : History) (count : ℕ)
 same_sheet r t meet count a = rw (a.meet_is, a.count_is) refl
 
 all_told : (r : Run) (t : Told) (meet : History) (count : ℕ)
-    → Applies meet count r.input r.left t.before t.now
-    → Appends t.before t.now (run_refused r)
+    → Applies meet count r.input r.left t.before t.now → Appends t.before t.now (run_refused r)
 all_told r t meet count a =
     subst (Appends t.before t.now) (sym (refused_within r a.within)) a.written
 
@@ -95,8 +91,7 @@ cut_apart r t meet count text a there part =
 
 -- nothing was done
 pub fails_apart_at_once : (style : Style) (event : Event) (round : ℕ)
-    (start before old : Option (List ℕ))
-    → ReplaysPartApart style event round
+    (start before old : Option (List ℕ)) → ReplaysPartApart style event round
     (record { had = start; left = start; old = old; new = old })
     (record { before = before; now = before }) (replay_fault.Lines fault.NoMemory)
 fails_apart_at_once style event round start before old =

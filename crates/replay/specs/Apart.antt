@@ -1,14 +1,13 @@
 -- A replay that writes the refused lines to one place and the sheet to another (the project's own).
 use Rattle.std.specs.Prelude.{◌≡◌, ◌⊎◌, true, false, ℕ, List, ◌++◌, is_some, Option, None}
 use Rattle.std.specs.Io.KnownBytes.{Appends, IsAtEnd, Keeps}
-use Rattle.formats.specs.declared.events.Event.{Event}
+use Rattle.formats.specs.declared.{events.Event.Event, styles.SheetStyle.SheetStyle as Style}
 use Rattle.lines.specs.Bytes.{AppendsPart, HasLeft, Sides}
 use Rattle.lines.specs.Lines.{is_within, whole_lines}
-use Rattle.lines.specs.declared.fault.RunFault.TheVariants as run_fault
 use Rattle.replay.specs.Replay.{Run, refusals, refused_text, run_of, run_sheet, sheet_text}
 use Rattle.replay.specs.declared.fault.ReplayFault.{ReplayFault}
+use Rattle.lines.specs.declared.fault.RunFault.TheVariants as run_fault
 use Rattle.replay.specs.declared.fault.ReplayFault.TheVariants as fault
-use Rattle.formats.specs.declared.styles.SheetStyle.{SheetStyle as Style}
 
 -- what a place had before a run, and what it has
 pub record Told : Type 0 where
@@ -86,5 +85,4 @@ ReplaysAllApart style event round s t =
 -- between these two sides, a replay of the input that the reader had ended early by this fault
 abbrev pub ReplaysPartApart : Style → Event → ℕ → Sides → Told → ReplayFault → Type 0
 ReplaysPartApart style event round s t fault =
-    (input : List ℕ) × HasLeft s.had input
-    × FailsApart fault (run_of style event round input s) t
+    (input : List ℕ) × HasLeft s.had input × FailsApart fault (run_of style event round input s) t

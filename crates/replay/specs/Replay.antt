@@ -1,19 +1,16 @@
 -- What a replay writes for its input, and how it ends: rules of this project's own.
 use Rattle.std.specs.Prelude.{◌≡◌, ℕ, true, false, if◌then◌else◌, List, [], ◌∷◌, ◌++◌, length}
 use Rattle.std.specs.Prelude.{codes, decimal, is_some, unwrap_or, Option, None}
-use Rattle.std.specs.List.{enumerate_from}
-use Rattle.std.specs.Io.KnownBytes.{Appends, IsAtEnd}
-use Rattle.formats.specs.declared.events.Event.{Event}
+use Rattle.std.specs.{List.enumerate_from, Io.KnownBytes.Appends, Io.KnownBytes.IsAtEnd}
+use Rattle.formats.specs.declared.{events.Event.Event, styles.SheetStyle.SheetStyle as Style}
 use Rattle.commands.specs.History.{History, nothing, history, after, answer_to}
 use Rattle.texts.specs.Codes.{code_name}
-use Rattle.texts.specs.declared.answer.Answer.{Answer}
-use Rattle.texts.specs.declared.answer.Answer.TheVariants.{Done, Refused}
-use Rattle.formats.specs.declared.styles.SheetStyle.{SheetStyle as Style}
+use Rattle.texts.specs.declared.answer.Answer.{Answer, TheVariants.Done, TheVariants.Refused}
 use Rattle.sheets.specs.Sheet.{sheet}
 use Rattle.lines.specs.Lines.{whole_lines, lines_of, is_within, lines_read}
 use Rattle.lines.specs.Bytes.{HasLeft, AppendsPart, Sides}
-use Rattle.lines.specs.declared.fault.RunFault.TheVariants as run_fault
 use Rattle.replay.specs.declared.fault.ReplayFault.{ReplayFault}
+use Rattle.lines.specs.declared.fault.RunFault.TheVariants as run_fault
 use Rattle.replay.specs.declared.fault.ReplayFault.TheVariants as fault
 
 -- line n is the command text with the id n

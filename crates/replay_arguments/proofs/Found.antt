@@ -1,12 +1,10 @@
 -- What was found in the arguments.
-use Rattle.std.proofs.Common.{◌≡◌, ◌∙◌, ap, ap₂, sym, List, Bor, IfSome, Option, None, Some}
-use Rattle.std.proofs.Common.{codes, option_map, unwrap_or}
-use Rattle.std.specs.Prelude.{Box}
-use Rattle.std.specs.Box.{box_value}
+use Rattle.std.proofs.Common.{◌≡◌, ◌∙◌, ap, ap₂, sym, List, Bor, IfSome, Option, None, Some, codes}
+use Rattle.std.proofs.Common.{option_map, unwrap_or}
+use Rattle.std.specs.{Prelude.Box, Box.box_value}
 use Rattle.clap.specs.Words.{Row, Text, first_of, first_value, found_of, rows_of, subcommand_rows}
-use Rattle.clap.specs.declared.parser.matches.SubCommand.{SubCommand}
+use Rattle.clap.specs.declared.parser.matches.{SubCommand.SubCommand, Found.Found}
 use Rattle.clap.specs.declared.parser.matches.ArgMatches.TheViews.{out-SubCommand}
-use Rattle.clap.specs.declared.parser.matches.Found.{Found}
 use Rattle.clap.proofs.WalkLemmas.{first_value-rows}
 use Rattle.replay_arguments.specs.Asking.{Finds, IsReplay}
 use Rattle.replay_arguments.specs.declared.replay.ReplayTask.{ReplayTask}

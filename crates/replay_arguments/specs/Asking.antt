@@ -1,17 +1,14 @@
 -- What the arguments of `replay` ask for, as the program's parser reads them: `clap` says which
 -- argument is the value of which name.
-use Rattle.std.specs.Prelude.{◌≡◌, true, ℕ, List, codes, decimal, map, Option, Some}
+use Rattle.std.specs.Prelude.{◌≡◌, Bool, true, false, ℕ, List, codes, decimal, map, Option, Some}
 use Rattle.std.specs.Prelude.{option_and_then}
-use Rattle.clap.specs.Words.{App, Row, Text, first_of, new_app, one_of, subcommand_of, with_rule}
-use Rattle.clap.specs.Words.{with_subcommand}
-use Rattle.clap.specs.declared.builder.value_parser.ValueParser.{ValueParser}
-use Rattle.formats.specs.declared.events.Event.{Event}
+use Rattle.clap.specs.Words.{App, Row, Text, first_of, new_app, subcommand_of, with_rule}
+use Rattle.clap.specs.{Words.with_subcommand, declared.builder.value_parser.ValueParser.ValueParser}
+use Rattle.formats.specs.declared.{events.Event.Event, styles.SheetStyle.SheetStyle as Style}
 use Rattle.formats.specs.Events.{all_events, event_name, event_of_name}
-use Rattle.formats.specs.declared.styles.SheetStyle.{SheetStyle as Style}
-use Rattle.formats.specs.declared.styles.SheetStyle.TheVariants as printed
 use Rattle.replay_arguments.specs.Arguments.{IsFlag, IsOneOf, csv_rule, flag_rule, round_numbers}
-use Rattle.replay_arguments.specs.Arguments.{value_rule}
-use Rattle.replay_arguments.specs.declared.replay.ReplayTask.{ReplayTask}
+use Rattle.replay_arguments.specs.{Arguments.value_rule, declared.replay.ReplayTask.ReplayTask}
+use Rattle.formats.specs.declared.styles.SheetStyle.TheVariants as printed
 
 -- the texts that are accepted as an event, and those that are accepted as a round
 pub record RoundParsers : Type 0 where
@@ -23,9 +20,7 @@ pub record RoundParsers : Type 0 where
 abbrev pub replay_arguments : RoundParsers → App
 replay_arguments p =
     with_rule (with_rule (with_rule (with_rule (new_app (codes "replay"))
-    (value_rule (codes "event") p.events))
-    (value_rule (codes "round") p.rounds))
-    csv_rule)
+    (value_rule (codes "event") p.events)) (value_rule (codes "round") p.rounds)) csv_rule)
     (flag_rule (codes "only-sheet"))
 
 -- the program: it requires a subcommand, and has a version
@@ -45,10 +40,14 @@ pub record IsRound (rows : List Row) (event : Event) (round : ℕ) : Type 0 wher
   pub named : option_and_then event_of_name (first_of (codes "event") rows) ≡ Some event
   pub numbered : first_of (codes "round") rows ≡ Some (decimal round)
 
+-- whether a sheet is printed as a table
+abbrev pub is_table : Style → Bool
+is_table printed.Table = true
+is_table printed.Text = false
+
 -- whether `--csv` is there
-pub record IsPrinted (rows : List Row) (style : Style) : Type 0 where
-  pub table : one_of (codes "csv") rows ≡ Some (codes "true") → style ≡ printed.Table
-  pub text : one_of (codes "csv") rows ≡ Some (codes "false") → style ≡ printed.Text
+abbrev pub IsPrinted : List Row → Style → Type 0
+IsPrinted rows style = IsFlag (codes "csv") rows (is_table style)
 
 -- the values ask for this sheet, alone or after the refused lines
 abbrev pub IsReplay : ReplayTask → List Row → Type 0

@@ -50,8 +50,7 @@ pub fn with_subcommand<'a>(
 /// The program `desk` with the one subcommand `replay`, as the parser knows it. Its usage has this
 /// name, whatever the name of the file that is run.
 fn replay_program<'a>(alloc: Global) -> Result<Command<'a>, AllocError>
-    ensures { IfOk result
-        (λ command. (p : RoundParsers) × (app_of command ≡ replay_program p)) }
+    ensures { IfOk result (λ command. (p : RoundParsers) × (app_of command ≡ replay_program p)) }
 {
     let command = desk_command(alloc).bin_name(NAME)?;
     with_subcommand(command, replay_command(alloc)?)

@@ -1,9 +1,9 @@
 //! The subcommand `replay`: its arguments and its help.
 
-ghost use Rattle.std.specs.Prelude.{◌≡◌, true, false, IfOk, IfSome};
+ghost use Rattle.std.specs.Prelude.{IfOk, IfSome};
 ghost use Rattle.clap.specs.Words.{found_of, rows_of};
-ghost use Rattle.replay_arguments.specs.Arguments.{IsCommand};
-ghost use Rattle.replay_arguments.specs.Asking.{IsReplay, RoundParsers, replay_arguments};
+ghost use Rattle.replay_arguments.specs.{Arguments.IsCommand, Asking.replay_arguments};
+ghost use Rattle.replay_arguments.specs.Asking.{IsPrinted, IsReplay, RoundParsers};
 
 use crate::round::{event_at, event_value, round_at, round_value};
 use crate::values::{csv_flag, flag, flag_at, plain_command, with_argument};
@@ -82,12 +82,11 @@ pub fn replay_command<'a>(alloc: Global) -> Result<Command<'a>, AllocError>
     with_argument(command, only_sheet)
 }
 
-/// How the sheet is printed.
-fn style_of(table: bool) -> SheetStyle
-    ensures table { table ≡ true → result ≡ SheetStyle.Table }
-    ensures text { table ≡ false → result ≡ SheetStyle.Text }
+/// How the sheet is asked for.
+pub fn style_at(found: &ArgMatches<'_>) -> SheetStyle
+    ensures { IsPrinted (rows_of (found_of found.now)) result }
 {
-    if table {
+    if flag_at(found, "csv") {
         SheetStyle::Table
     } else {
         SheetStyle::Text
@@ -100,7 +99,7 @@ pub fn replay_of(found: &ArgMatches<'_>) -> Option<ReplayTask>
 {
     let event = event_at(found)?;
     let round = round_at(found)?;
-    let style = style_of(found.get_flag("csv"));
+    let style = style_at(found);
     let only_sheet = flag_at(found, "only-sheet");
     Some(ReplayTask {
         event,

@@ -5,8 +5,7 @@ use Rattle.clap.specs.Words.{Text}
 use Rattle.fault_lines.specs.Statuses.{EndsTask, RunsNothing}
 use Rattle.lines.specs.Bytes.{Sides}
 use Rattle.replay.specs.Apart.{Told}
-use Rattle.replay_arguments.specs.Asking.{Asks}
-use Rattle.replay_arguments.specs.declared.replay.ReplayTask.{ReplayTask}
+use Rattle.replay_arguments.specs.{Asking.Asks, declared.replay.ReplayTask.ReplayTask}
 
 -- what a status says of the arguments, and of what was read, written and told
 abbrev pub Ran : List Text → ℕ → Sides → Told → Type 0

@@ -1,23 +1,16 @@
 -- What an event is answered, from the plan of its step.
-use Rattle.std.proofs.Common.{◌≡◌, ℕ, ◌↔◌, List, Result, Err}
-use Rattle.std.proofs.Common.{refl, sym, ap, subst}
-use Rattle.acceptor.specs.declared.entry.Entry.{Entry}
-use Rattle.acceptor.specs.declared.message.Message.{Message}
+use Rattle.std.proofs.Common.{◌≡◌, ℕ, ◌↔◌, List, Result, Err, refl, sym, ap, subst}
+use Rattle.acceptor.specs.declared.{entry.Entry.Entry, message.Message.Message}
 use Rattle.acceptor.specs.declared.stored.Stored.{Stored}
-use Rattle.proposer.specs.declared.fault.Refusal.{Refusal}
+use Rattle.proposer.specs.declared.fault.{Refusal.Refusal, StepFault.StepFault}
 use Rattle.proposer.specs.declared.fault.Refusal.TheVariants.{Busy, LogFull, BallotsSpent}
-use Rattle.proposer.specs.declared.fault.StepFault.{StepFault}
 use Rattle.proposer.specs.declared.fault.StepFault.TheVariants.{Refused, NoMemory}
 use Rattle.proposer.specs.declared.plan.Plan.{Plan}
-use Rattle.learner.specs.Desks.{Desk}
-use Rattle.learner.specs.Steps.{Done}
-use Rattle.replica.specs.declared.roles.fault.NodeFault.{NodeFault}
+use Rattle.learner.specs.{Desks.Desk, Steps.Done}
+use Rattle.replica.specs.{declared.roles.fault.NodeFault.NodeFault, Handles.Takes}
+use Rattle.replica.specs.{roles.Faults.refused_as, roles.Faults.fault_of, model.Planning.IsPlanned}
+use Rattle.replica.specs.{roles.model.RunningDesks.RunningDesk, Stores.HoldsBeforeOrAfter}
 use Rattle.replica.specs.declared.roles.fault.NodeFault.TheVariants as fault
-use Rattle.replica.specs.roles.Faults.{refused_as, fault_of}
-use Rattle.replica.specs.roles.model.RunningDesks.{RunningDesk}
-use Rattle.replica.specs.Handles.{Takes}
-use Rattle.replica.specs.Stores.{HoldsBeforeOrAfter}
-use Rattle.replica.specs.model.Planning.{IsPlanned}
 
 same_refusal : (a b : Refusal) → refused_as a ≡ refused_as b → a ≡ b
 same_refusal Busy Busy e = refl
@@ -32,8 +25,7 @@ same_refusal BallotsSpent BallotsSpent e = refl
 
 memory_is_no_refusal : (b : Refusal) → fault.NoMemory ≡ refused_as b → ⊥
 memory_is_no_refusal Busy e = absurd cc
-memory_is_no_refusal LogFull e = absurd cc
-memory_is_no_refusal BallotsSpent e = absurd cc
+memory_is_no_refusal _ e = absurd cc
 
 -- an answer that is a fault
 abbrev answered : NodeFault → Result (List Message) NodeFault
@@ -54,8 +46,7 @@ refused_of a b e = cc
 
 -- a step that is refused is refused for the same reason
 refused_same : (A : Type 0) (s : Result Done Refusal) (why : StepFault)
-    (answer : Result (List Message) NodeFault)
-    → answer ≡ Err (fault_of why)
+    (answer : Result (List Message) NodeFault) → answer ≡ Err (fault_of why)
     → ((r : Refusal) → (refused_call A why ≡ refused_call A (Refused r)) ↔ (s ≡ Err r))
     → (r : Refusal) → (answer ≡ Err (refused_as r)) ↔ (s ≡ Err r)
 refused_same A s (Refused a) answer e h r =
@@ -74,16 +65,14 @@ refused_same A s NoMemory answer e h r =
     λ k.
     let bare : answered fault.NoMemory ≡ answered (refused_as r) = cc in
     absurd (memory_is_no_refusal r (err_of fault.NoMemory (refused_as r) bare)) in
-    let back : s ≡ Err r
-    → answer ≡ Err (refused_as r) = λ k. let other : NoMemory ≡ Refused r =
+    let back : s ≡ Err r → answer ≡ Err (refused_as r) = λ k. let other : NoMemory ≡ Refused r =
     step_err_of A NoMemory (Refused r) ((h r).1 k) in
     absurd cc in
     (there, back)
 
 -- a refusal leaves the desk as it was
 pub takes_refused : (A : Type 0) (s : Result Done Refusal) (n d : ℕ) (x y : Desk) (why : StepFault)
-    (answer : NodeFault)
-    → y ≡ x → answer ≡ fault_of why
+    (answer : NodeFault) → y ≡ x → answer ≡ fault_of why
     → ((r : Refusal) → (refused_call A why ≡ refused_call A (Refused r)) ↔ (s ≡ Err r))
     → Takes s n d x y (Err answer)
 takes_refused A s n d x y why answer same is h =
@@ -96,8 +85,7 @@ takes_refused A s n d x y why answer same is h =
 
 -- what holds of the desk once room is made for its plan holds of the desk before
 pub takes_as : (a b : RunningDesk) (p : Result Plan StepFault) (s : Result Done Refusal) (y : Desk)
-    (answer : Result (List Message) NodeFault)
-    → b ≡ record a { room = b.room }
+    (answer : Result (List Message) NodeFault) → b ≡ record a { room = b.room }
     → IsPlanned a.desk p s
     → ((t : Result Done Refusal) → IsPlanned b.desk p t → Takes t b.desks b.number b.desk y answer)
     → Takes s a.desks a.number a.desk y answer
@@ -111,10 +99,8 @@ takes_as a b p s y answer same planned h =
     (h s (subst (λ (x : Desk). IsPlanned x p s) (sym desk) planned))))
 
 pub left_as : (a b : RunningDesk) (p : Result Plan StepFault) (s : Result Done Refusal)
-    (may_hold : Stored → List Entry → Type 0) (may_break : Type 0)
-    → b ≡ record a { room = b.room }
-    → IsPlanned a.desk p s
-    → ((t : Result Done Refusal) → IsPlanned b.desk p t
+    (may_hold : Stored → List Entry → Type 0) (may_break : Type 0) → b ≡ record a { room = b.room }
+    → IsPlanned a.desk p s → ((t : Result Done Refusal) → IsPlanned b.desk p t
     → HoldsBeforeOrAfter may_hold may_break b.desk t)
     → HoldsBeforeOrAfter may_hold may_break a.desk s
 left_as a b p s may_hold may_break same planned h =

@@ -3,24 +3,15 @@ use Rattle.std.specs.Prelude.{ℕ, ◌≡◌, ◌↔◌, ◌<◌, ⊤, true, fal
 use Rattle.std.specs.Prelude.{Err, IsOk, IfOk, OnErr, IsErrOf}
 use Rattle.std.specs.List.{All}
 use Rattle.acceptor.specs.Entries.{IsId, IsText}
-use Rattle.acceptor.specs.declared.entry.Entry.{Entry}
-use Rattle.acceptor.specs.declared.message.Message.{Message}
-use Rattle.proposer.specs.declared.fault.Refusal.{Refusal}
-use Rattle.proposer.specs.declared.plan.Plan.{Plan}
+use Rattle.acceptor.specs.declared.{entry.Entry.Entry, message.Message.Message}
+use Rattle.proposer.specs.declared.{fault.Refusal.Refusal, plan.Plan.Plan}
 use Rattle.proposer.specs.Plans.{only_say, IsNothing}
-use Rattle.learner.specs.declared.event.DeskEvent.{DeskEvent}
-use Rattle.learner.specs.declared.event.DeskEvent.TheVariants.{Submit, Start, Tick, Deliver}
-use Rattle.learner.specs.Contents.{BodyHolds}
-use Rattle.learner.specs.Desks.{Desk, passing}
-use Rattle.learner.specs.Ranges.{AreInRange}
+use Rattle.learner.specs.declared.event.DeskEvent.{DeskEvent, TheVariants.Deliver}
+use Rattle.learner.specs.{Contents.BodyHolds, Desks.Desk, Desks.passing, Ranges.AreInRange}
 use Rattle.learner.specs.Steps.{Done, is_heeded, on_body, step}
-use Rattle.store.specs.declared.home.Home.{Home}
-use Rattle.store.specs.declared.keeper.Keeper.{Ghosts}
-use Rattle.replica.specs.declared.roles.fault.NodeFault.{NodeFault}
-use Rattle.replica.specs.declared.roles.fault.NodeFault.TheVariants.{Down}
-use Rattle.replica.specs.roles.Faults.{refused_as}
-use Rattle.replica.specs.Lengths.{told_after}
-use Rattle.replica.specs.Nodes.{NodeValue}
+use Rattle.store.specs.declared.{home.Home.Home, keeper.Keeper.Ghosts}
+use Rattle.replica.specs.declared.roles.fault.NodeFault.{NodeFault, TheVariants.Down}
+use Rattle.replica.specs.{roles.Faults.refused_as, Lengths.told_after, Nodes.NodeValue}
 use Rattle.replica.specs.Stores.{FindsOldOrHeld, HoldsDesk, HoldsStep}
 
 -- What is answered to an event, where desk d of n is x before it and y after it, and this is the
@@ -40,10 +31,8 @@ plan_at n d x m =
 
 -- the event is a message at which the desk neither changes nor sends anything
 abbrev pub IsIgnored : ℕ → ℕ → Desk → DeskEvent → Type 0
-IsIgnored n d x (Submit e) = ⊥
-IsIgnored n d x Start = ⊥
-IsIgnored n d x Tick = ⊥
 IsIgnored n d x (Deliver m) = IsNothing (plan_at n d x m)
+IsIgnored n d x _ = ⊥
 
 -- the id is 1 to 2^63 - 1, and the text has at most 600 bytes
 abbrev pub IsInFrame : Entry → Type 0

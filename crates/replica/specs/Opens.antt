@@ -1,11 +1,8 @@
 -- What opening a node gives, and what a refusal leaves of its keeper (the project's own).
 use Rattle.std.specs.Prelude.{◌≡◌, ◌≢◌, ◌<◌, false, IsTrue}
-use Rattle.store.specs.declared.fault.LoadFault.{LoadFault}
+use Rattle.store.specs.declared.{fault.LoadFault.LoadFault, keeper.Keeper.Ghosts}
 use Rattle.store.specs.declared.fault.LoadFault.TheVariants.{Device, NoMemory}
-use Rattle.store.specs.declared.keeper.Keeper.{Ghosts}
-use Rattle.replica.specs.roles.Opening.{opened}
-use Rattle.replica.specs.Lengths.{nothing_told}
-use Rattle.replica.specs.Nodes.{NodeValue}
+use Rattle.replica.specs.{roles.Opening.opened, Lengths.nothing_told, Nodes.NodeValue}
 use Rattle.replica.specs.Stores.{HasKept, HoldsDesk, HoldsNoOther, KeepsStill}
 
 -- the node that is opened over a keeper

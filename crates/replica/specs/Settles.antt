@@ -1,18 +1,13 @@
 -- What a call of `Node::settle` answers, and what it leaves (the project's own).
-use Rattle.std.specs.Prelude.{◌≡◌, ◌⊎◌, ◌<◌, Bool, true, false, not, List}
-use Rattle.std.specs.Prelude.{IsTrue}
-use Rattle.acceptor.specs.declared.entry.Entry.{Entry}
-use Rattle.acceptor.specs.declared.stored.Stored.{Stored}
+use Rattle.std.specs.Prelude.{◌≡◌, ◌⊎◌, ◌<◌, Bool, true, false, not, List, IsTrue}
+use Rattle.acceptor.specs.declared.{entry.Entry.Entry, stored.Stored.Stored}
 use Rattle.store.specs.declared.keeper.Keeper.{Ghosts}
-use Rattle.replica.specs.Nodes.{NodeValue}
-use Rattle.replica.specs.Stores.{HoldsDesk}
+use Rattle.replica.specs.{Nodes.NodeValue, Stores.HoldsDesk}
 
 -- an opening finds what it found before, or what the store was to hold once it is settled
 abbrev pub FindsEither : {K : Type 0} → Ghosts K → K → K → Type 0
 FindsEither k old new =
-    k.is_honest new
-    → (¬ k.may_break new)
-    × ((s : Stored) (log : List Entry) → k.finds new s log
+    k.is_honest new → (¬ k.may_break new) × ((s : Stored) (log : List Entry) → k.finds new s log
     → k.finds old s log ⊎ k.may_hold old s log)
 
 -- What `settle` answers, and what the node is then: true where all that was kept on is committed,

@@ -2,15 +2,11 @@
 -- project's own).
 use Rattle.std.specs.Prelude.{◌≡◌, List, Option, Result, IsOkAnd}
 use Rattle.acceptor.specs.Storing.{stored_after, log_after}
-use Rattle.acceptor.specs.declared.entry.Entry.{Entry}
-use Rattle.acceptor.specs.declared.stored.Change.{Change}
-use Rattle.acceptor.specs.declared.stored.Stored.{Stored}
+use Rattle.acceptor.specs.declared.{entry.Entry.Entry, stored.Change.Change, stored.Stored.Stored}
 use Rattle.proposer.specs.declared.fault.Refusal.{Refusal}
-use Rattle.learner.specs.Desks.{Desk}
-use Rattle.learner.specs.Steps.{Done}
+use Rattle.learner.specs.{Desks.Desk, Steps.Done}
 use Rattle.store.specs.Keeping.{HoldsOnly, HoldsEither, FindsOldOrKept}
-use Rattle.store.specs.Ranges.{IsFit}
-use Rattle.store.specs.declared.keeper.Keeper.{Ghosts}
+use Rattle.store.specs.{Ranges.IsFit, declared.keeper.Keeper.Ghosts}
 
 -- the keeper keeps this desk's state
 abbrev pub KeepsDesk : {K : Type 0} → Ghosts K → K → Desk → Type 0
@@ -36,8 +32,7 @@ HoldsStep k keeper x step =
 -- hold.
 abbrev pub FindsOldOrHeld : {K : Type 0} → Ghosts K → K → K → Type 0
 FindsOldOrHeld k old new =
-    k.is_honest new
-    → FindsOldOrKept (k.finds old) (k.finds new) (k.may_hold new) (k.is_settled new)
+    k.is_honest new → FindsOldOrKept (k.finds old) (k.finds new) (k.may_hold new) (k.is_settled new)
 
 -- ---- a change, where the keeper kept a state before it, and the state after it is in its ranges
 
@@ -52,8 +47,7 @@ KeepsAfter k old change new =
 abbrev pub KeepsBefore : {K : Type 0} → Ghosts K → K → Option Change → K → Type 0
 KeepsBefore k old change new =
     k.is_honest new → (s : Stored) (log : List Entry) → k.keeps old s log
-    → IsFit (k.home_of old).desks (stored_after s change) (log_after log change)
-    → k.keeps new s log
+    → IsFit (k.home_of old).desks (stored_after s change) (log_after log change) → k.keeps new s log
 
 -- a store that is opened again holds one of the two
 abbrev pub HoldsOneOf : {K : Type 0} → Ghosts K → K → Option Change → K → Type 0

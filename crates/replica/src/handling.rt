@@ -1,18 +1,16 @@
 //! What one event does at a desk: its plan is worked out, room is made for it, its one change is
 //! saved, then it is adopted, and only then are its messages handed out.
 
-ghost use Rattle.std.specs.Prelude.{◌≡◌, ◌≢◌, ◌⊎◌, ◌<◌, Ok, Err, None, false, IsOk};
-ghost use Rattle.std.specs.Prelude.{IfOk, OnOk, IfErr};
+ghost use Rattle.std.specs.Prelude.{◌≡◌, ◌≢◌, ◌⊎◌, ◌<◌, Ok, Err, None, false, IsOk, IfOk, OnOk};
+ghost use Rattle.std.specs.Prelude.{IfErr};
 ghost use Rattle.learner.specs.declared.event.DeskEvent.TheVariants.{Deliver};
 ghost use Rattle.learner.specs.Steps.{done, step};
-ghost use Rattle.proposer.specs.Plans.{IsNothing};
-ghost use Rattle.proposer.specs.Refusals.{RefusesAs};
+ghost use Rattle.proposer.specs.{Plans.IsNothing, Refusals.RefusesAs};
 ghost use Rattle.replica.specs.roles.model.RunningDesks.{Fits, delivery};
-ghost use Rattle.replica.specs.Handles.{IsIgnored};
+ghost use Rattle.replica.specs.{Handles.IsIgnored, model.Planning.running_step};
 ghost use Rattle.replica.specs.Stores.{FindsOldOrHeld, HoldsOneOf, HoldsStep, KeepsAfter};
 ghost use Rattle.replica.specs.Stores.{KeepsBefore, KeepsDesk};
 ghost use Rattle.replica.specs.model.Planning.{HoldsPlan, IsSameDesk, TakesPlan, TakesStep};
-ghost use Rattle.replica.specs.model.Planning.{running_step};
 
 use crate::roles::{NodeFault, Running};
 use acceptor::message::{Message, Messages};

@@ -1,19 +1,16 @@
 //! One desk of a replicated log, over the store that keeps its state.
 
-ghost use Rattle.std.specs.Prelude.{◌≡◌, ◌≢◌, ◌⊎◌, ◌↔◌, ◌≤◌, ◌<◌, Err, true};
-ghost use Rattle.std.specs.Prelude.{false, not, IsOk, IfOk, OnOk, IfErr, IsTrue, length};
+ghost use Rattle.std.specs.Prelude.{◌≡◌, ◌≢◌, ◌⊎◌, ◌↔◌, ◌≤◌, ◌<◌, Err, true, false, not, IsOk};
+ghost use Rattle.std.specs.Prelude.{IfOk, OnOk, IfErr, IsTrue, length};
 ghost use Rattle.std.specs.List.{AllByRecursion};
 ghost use Rattle.acceptor.specs.Ballots.{no_ballot};
 ghost use Rattle.learner.specs.Ranges.{IsReal};
 ghost use Rattle.store.specs.Ranges.{IsHome};
-ghost use Rattle.replica.specs.roles.Opening.{opened};
-ghost use Rattle.replica.specs.Handles.{FitInFrames, Handles};
-ghost use Rattle.replica.specs.Lengths.{nothing_told, told_after};
-ghost use Rattle.replica.specs.Opens.{GivesBack, Opens};
+ghost use Rattle.replica.specs.{roles.Opening.opened, Settles.FindsEither, Stores.KeepsStill};
+ghost use Rattle.replica.specs.{Handles.FitInFrames, Handles.Handles, Opens.GivesBack, Opens.Opens};
+ghost use Rattle.replica.specs.{Lengths.nothing_told, Lengths.told_after, Settles.Settles};
 ghost use Rattle.replica.specs.model.Planning.{Ignores, TakesAt, step_of};
-ghost use Rattle.replica.specs.Settles.{FindsEither, Settles};
-ghost use Rattle.replica.specs.Stores.{FindsOldOrHeld, HasKept, HoldsDesk, HoldsNoOther};
-ghost use Rattle.replica.specs.Stores.{HoldsStep, KeepsStill};
+ghost use Rattle.replica.specs.Stores.{FindsOldOrHeld, HasKept, HoldsDesk, HoldsNoOther, HoldsStep};
 
 use crate::entries::look_at_all;
 use crate::handling::take_event;

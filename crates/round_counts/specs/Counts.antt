@@ -1,14 +1,12 @@
 -- How far the entrants of a round have come (the project's own).
 use Rattle.std.specs.Prelude.{ℕ, Bool, true, false, List, [], ◌∷◌, length, nat_lt, if◌then◌else◌}
-use Rattle.std.specs.Prelude.{Option, count_by}
-use Rattle.std.specs.Option.{option_map_or}
+use Rattle.std.specs.{Prelude.Option, Prelude.count_by, Option.option_map_or}
 use Rattle.attempts.specs.declared.Value.{Value}
 use Rattle.formats.specs.declared.events.Format.{Format}
 use Rattle.formats.specs.declared.events.Format.TheVariants.{Ao5, Mo3, Bo1, Bo2, Bo3}
 use Rattle.rounds.specs.Tables.{Entrant, Table, allotted, entrant, standings}
-use Rattle.round_counts.specs.declared.progress.Progress.{Progress}
+use Rattle.round_counts.specs.declared.{progress.Progress.Progress, counts.Counts.Counts}
 use Rattle.round_counts.specs.declared.progress.Progress.TheVariants.{Absent, Begun, Done}
-use Rattle.round_counts.specs.declared.counts.Counts.{Counts}
 
 -- no attempt is done, some of the allotted ones, or all of them
 abbrev pub progress_with : Format → Option (ℕ × ℕ) → List Value → Progress

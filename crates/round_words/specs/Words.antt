@@ -1,20 +1,16 @@
 -- Events, rounds and their settings in people's words (the project's own).
 use Rattle.std.specs.Prelude.{ℕ, Bool, true, false, List, [], ◌++◌, codes, decimal, Option, None}
 use Rattle.std.specs.Prelude.{Some}
-use Rattle.attempts.specs.Texts.{number_text, time_text}
-use Rattle.attempts.specs.declared.Unit.{Unit as Measure}
-use Rattle.formats.specs.declared.advance.Advance.{Advance}
+use Rattle.attempts.specs.{Texts.number_text, Texts.time_text, declared.Unit.Unit as Measure}
+use Rattle.formats.specs.{declared.advance.Advance.Advance, Events.event_name, Events.unit_of}
 use Rattle.formats.specs.declared.advance.Advance.TheVariants.{Final, Top, Percent}
-use Rattle.formats.specs.declared.events.Event.{Event}
+use Rattle.formats.specs.declared.events.{Event.Event, Format.Format}
 use Rattle.formats.specs.declared.events.Event.TheVariants.{Cube3, Cube2, Cube4, Cube5, Cube6}
 use Rattle.formats.specs.declared.events.Event.TheVariants.{Cube7, Blind3, FewestMoves, OneHanded}
 use Rattle.formats.specs.declared.events.Event.TheVariants.{Clock, Megaminx, Pyraminx, Skewb}
 use Rattle.formats.specs.declared.events.Event.TheVariants.{Square1, Blind4, Blind5, MultiBlind}
-use Rattle.formats.specs.declared.events.Format.{Format}
 use Rattle.formats.specs.declared.events.Format.TheVariants.{Ao5, Mo3, Bo1, Bo2, Bo3}
-use Rattle.formats.specs.Events.{event_name, unit_of}
-use Rattle.texts.specs.declared.command.RoundId.{RoundId}
-use Rattle.texts.specs.declared.command.Settings.{Settings}
+use Rattle.texts.specs.declared.command.{RoundId.RoundId, Settings.Settings}
 
 -- the names of the events (WCA Regulations, article 9b)
 abbrev pub event_words : Event → List ℕ

@@ -2,18 +2,17 @@
 use Rattle.std.proofs.Common.{◌≡◌, ℕ, ◌-◌, ◌<◌, ◌≤◌, nat_lt, Bool, true, false, cond, not, ◌||◌}
 use Rattle.std.proofs.Common.{◌&&◌, List, [], ◌∷◌, ◌++◌, length, take, get_or, Option, None, Some}
 use Rattle.std.proofs.Common.{IfSome, zero, suc, refl, sym, ap, ◌∙◌, arith, subst, length-take-le}
-use Rattle.std.proofs.Common.{length-append}
-use Rattle.std.specs.List.{list_any}
+use Rattle.std.proofs.{Common.length-append, Common.find, lemmas.Bool.Decides.nat_tests}
+use Rattle.std.{proofs.Common.slice_get, specs.List.list_any, specs.List.position_or_len}
 use Rattle.std.proofs.lemmas.Bool.{false≢true}
-use Rattle.std.proofs.lemmas.Bool.Decides.{nat_tests}
-use Rattle.std.proofs.lemmas.List.{length-set, take-take}
+use Rattle.std.proofs.lemmas.List.{length-set, take-take, Folds.find_at}
 use Rattle.attempts.specs.declared.Value.{Value}
-use Rattle.formats.specs.declared.events.Format.{Format}
-use Rattle.formats.specs.Events.{attempts_of}
+use Rattle.formats.specs.{declared.events.Format.Format, Events.attempts_of, Results.is_better}
 use Rattle.rounds.specs.Tables.{Table, IsCutoff, is_below, meets, allotted, KeepsAllotted, replaced}
-use Rattle.rounds.specs.Tables.{loses_cutoff, without_last}
-use Rattle.rounds.specs.CutoffLaw.{OnlyMetGoOn, MetIsBetterIn}
-use Rattle.rounds.proofs.CutoffOrder.{met_is_better}
+use Rattle.rounds.specs.Tables.{loses_cutoff, without_last, has_number, key, Entrant}
+use Rattle.rounds.specs.CutoffLaw.{OnlyMetGoOn, MetIsBetterIn, MetIsBetter}
+use Rattle.rounds.proofs.CutoffOrder.{better_better, better_key, not_better}
+use Rattle.rounds.proofs.KeyOrder.{count_lt_in, at_index}
 
 -- what is allotted, by whether the cutoff is met
 abbrev by_met : Format → ℕ → Bool → ℕ
@@ -79,16 +78,14 @@ another format (Some cutoff) vs k v is within keeps =
     step : (b more : Bool) → meets cutoff (replaced k v vs) ≡ b
         → nat_lt cutoff.0 (length (replaced k v vs)) ≡ more
         → (nat_lt cutoff.0 (length (replaced k v vs)) && not (meets cutoff (replaced k v vs)))
-        ≡ false
-        → length (replaced k v vs) ≤ allotted format (Some cutoff) (replaced k v vs)
+        ≡ false → length (replaced k v vs) ≤ allotted format (Some cutoff) (replaced k v vs)
     step true more met is_more keeps =
         let same = length-set vs (k - 1) v in
         let most = allotted_most format cutoff.0 (meets cutoff vs) is.1 in
         subst (λ b. length (replaced k v vs) ≤ by_met format cutoff.0 b) (sym met)
         (omega (arith, same, within, most))
     step false true met is_more keeps =
-        absurd
-        (false≢true
+        absurd (false≢true
         (sym keeps ∙ ap (λ b. b && not (meets cutoff (replaced k v vs))) is_more ∙ ap not met))
     step false false met is_more keeps =
         let few : length (replaced k v vs) ≤ cutoff.0 = grind (arith, nat_tests) in
@@ -132,12 +129,37 @@ goes_on format cutoff vs within more = step (meets cutoff vs) refl
 only_met : (cutoff : ℕ × ℕ) (t : Table) → t.cutoff ≡ Some cutoff → KeepsAllotted t
     → OnlyMetGoOn cutoff t
 only_met cutoff t is h k d lt more =
-    goes_on t.format cutoff _
-    (subst
-    (λ c.
+    goes_on t.format cutoff _ (subst (λ c.
     length (get_or t.entrants k d).values ≤ allotted t.format c (get_or t.entrants k d).values)
-    is (h k d lt))
-    more
+    is (h k d lt)) more
+
+-- The law
+
+at_most : (k m : ℕ) → (k < m → false ≡ true) → m ≤ k
+at_most k m h = step (nat_lt k m) refl
+  where
+    step : (b : Bool) → nat_lt k m ≡ b → m ≤ k
+    step true is = absurd (false≢true (h (grind (arith, nat_tests))))
+    step false is = grind (arith, nat_tests)
+
+pub met_is_better : MetIsBetter
+met_is_better t cutoff within only n m one other found there met not =
+    let at : (k : ℕ) (e : Entrant) → find (has_number k) t.entrants ≡ Some e
+    → slice_get t.entrants (position_or_len (has_number k) t.entrants) ≡ Some e =
+    λ k e is. sym (find_at (has_number k) t.entrants) ∙ is in
+    let goes =
+    at_index (λ (e : Entrant). cutoff.0 < length e.values → meets cutoff e.values ≡ true) t.entrants
+    (position_or_len (has_number m) t.entrants) other only (at m other there) in
+    let few : length other.values ≤ cutoff.0 =
+    at_most cutoff.0 (length other.values) (λ more. sym not ∙ goes more) in
+    let better : is_better (key t one) (key t other) ≡ true =
+    better_key t.format t.unit cutoff.0 cutoff.1 one.values other.values within.1 met not few in
+    let less =
+    count_lt_in (λ (e : Entrant). is_better (key t e) (key t one))
+    (λ (e : Entrant). is_better (key t e) (key t other)) t.entrants
+    (position_or_len (has_number n) t.entrants) one (at n one found) (not_better (key t one)) better
+    (λ e h. better_better (key t e) (key t one) (key t other) h better) in
+    omega (arith, less)
 
 -- who met the cutoff of a table
 pub met_in : (t : Table) (o : Option (ℕ × ℕ)) → t.cutoff ≡ o → IsCutoff t.format o → KeepsAllotted t

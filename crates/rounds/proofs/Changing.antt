@@ -1,30 +1,23 @@
 -- One entrant has other values: what is kept stays true.
-use Rattle.std.proofs.Common.{◌≡◌, ℕ, ◌+◌, ◌≤◌, Bool, false, cond, List, [], ◌∷◌, map, length, All}
-use Rattle.std.proofs.Common.{count_by, slice_get, Some, zero, suc, refl, sym, ap, ◌∙◌, arith}
-use Rattle.std.proofs.Common.{subst}
-use Rattle.std.specs.List.{list_any, AllByRecursion}
-use Rattle.std.specs.Map.{values_of}
-use Rattle.std.proofs.lemmas.List.{length-map}
-use Rattle.std.proofs.lemmas.List.Elements.{All-from_recursion, recursion_from_All}
-use Rattle.std.proofs.lemmas.List.Sums.{sum_by-cons}
-use Rattle.attempts.specs.declared.Value.{Value}
-use Rattle.attempts.specs.Attempts.{IsInRangeOf}
-use Rattle.formats.specs.declared.results.RankKey.{RankKey}
-use Rattle.formats.specs.Results.{is_better}
+use Rattle.std.proofs.Common.{◌≡◌, ◌+◌, ◌≤◌, [], ◌∷◌, map, All, Some, zero, suc, refl, sym, ap, ◌∙◌}
+use Rattle.std.proofs.Common.{ℕ, Bool, false, List, length, count_by, slice_get, arith, subst}
+use Rattle.std.proofs.Common.{get_or}
+use Rattle.std.specs.{List.list_any, List.AllByRecursion, Map.values_of}
+use Rattle.std.proofs.lemmas.{List.length-map, List.Elements.All-weaker, Simd.map-map}
+use Rattle.std.proofs.lemmas.List.Elements.{All-from_recursion, recursion_from_All, All-map}
+use Rattle.attempts.specs.{declared.Value.Value, Attempts.IsInRangeOf}
+use Rattle.formats.specs.{declared.results.RankKey.RankKey, Results.is_better}
 use Rattle.indexmap.specs.IndexMap.{set_value_at}
-use Rattle.rounds.specs.declared.rules.Rules.{Rules}
-use Rattle.rounds.specs.declared.kept.EntrantResult.{EntrantResult}
-use Rattle.rounds.specs.declared.kept_entrant.KeptEntrant.{KeptEntrant}
-use Rattle.rounds.specs.Tables.{Entrant, allotted, is_started_attempt, has_started, started}
+use Rattle.rounds.specs.declared.{rules.Rules.Rules, kept.EntrantResult.EntrantResult}
+use Rattle.rounds.specs.{declared.kept_entrant.KeptEntrant.KeptEntrant, model.KeptEntrants.passed}
+use Rattle.rounds.specs.Tables.{allotted, is_started_attempt, has_started, started}
 use Rattle.rounds.specs.model.Field.{as_table, set_values_at, with_values_at}
-use Rattle.rounds.specs.model.PackedKeys.{HasPackedKey}
-use Rattle.rounds.specs.model.KeptEntrants.{kept_of, one_if, recounted, passed_by, is_unfinished}
-use Rattle.rounds.specs.model.KeptEntrants.{place_among}
+use Rattle.rounds.specs.model.{PackedKeys.HasPackedKey, KeptEntrants.is_unfinished}
+use Rattle.rounds.specs.model.KeptEntrants.{place_among, kept_of, one_if, recounted, passed_by}
 use Rattle.rounds.specs.model.UpToDate.{entrant_of, entrants_of, no_result, IsMade, IsPlaced}
 use Rattle.rounds.specs.model.UpToDate.{IsAllotted, IsRanged, AreUpToDate}
-use Rattle.rounds.proofs.CutoffOrder.{not_better}
-use Rattle.rounds.proofs.Passing.{passed, recounts, is_counted_in}
-use Rattle.rounds.proofs.EntrantLines.{field_with, part_at}
+use Rattle.rounds.proofs.{CutoffOrder.not_better, EntrantLines.field_with, KeyOrder.count_along}
+use Rattle.rounds.proofs.Passing.{part_at, recounts, is_counted_in, line_read}
 
 -- another line at an index
 pub set_all : (P : ℕ × KeptEntrant → Type 0) (es : List (ℕ × KeptEntrant)) (i : ℕ) (s : KeptEntrant)
@@ -37,18 +30,6 @@ set_all P es i s h is = All-from_recursion P _ (put es i (recursion_from_All P e
     put (x ∷ xs) zero h = (is x.0, h.1)
     put (x ∷ xs) (suc j) h = (h.0, put xs j h.1)
 
--- what holds of each line after it was passed by
-pass_each : (P Q : ℕ × KeptEntrant → Type 0) (old new : RankKey)
-    → ((e : ℕ × KeptEntrant) → P e → Q (passed_by old new e)) → (es : List (ℕ × KeptEntrant))
-    → All P es
-    → All Q (map (passed_by old new) es)
-pass_each P Q old new step es h = All-from_recursion Q _ (go es (recursion_from_All P es h))
-  where
-    go : (xs : List (ℕ × KeptEntrant)) → AllByRecursion P xs
-        → AllByRecursion Q (map (passed_by old new) xs)
-    go [] h = h
-    go (x ∷ xs) h = (step x h.0, go xs h.1)
-
 length-set_value_at : (es : List (ℕ × KeptEntrant)) (i : ℕ) (s : KeptEntrant)
     → length (set_value_at es i s) ≡ length es
 length-set_value_at [] i s = refl
@@ -56,11 +37,6 @@ length-set_value_at (e ∷ es) zero s = refl
 length-set_value_at (e ∷ es) (suc i) s = ap suc (length-set_value_at es i s)
 
 -- The entrants
-
-rows_passed : (old new : RankKey) (es : List (ℕ × KeptEntrant))
-    → entrants_of (map (passed_by old new) es) ≡ entrants_of es
-rows_passed old new [] = refl
-rows_passed old new (e ∷ es) = ap (λ xs. entrant_of e ∷ xs) (rows_passed old new es)
 
 rows_set : (es : List (ℕ × KeptEntrant)) (i : ℕ) (s : KeptEntrant)
     → entrants_of (set_value_at es i s) ≡ set_values_at (entrants_of es) i s.row
@@ -73,52 +49,38 @@ pub rows_changed : (old new : RankKey) (es : List (ℕ × KeptEntrant)) (i : ℕ
     ≡ set_values_at (entrants_of es) i s.row
 rows_changed old new es i s =
     rows_set (map (passed_by old new) es) i s
-    ∙ ap (λ xs. set_values_at xs i s.row) (rows_passed old new es)
+    ∙ ap (λ xs. set_values_at xs i s.row) (map-map entrant_of (passed_by old new) es)
 
 -- The counts
 
 -- a count that does not go by places
-same_count : (p : KeptEntrant → Bool) (old new : RankKey)
+count_passed : (p : KeptEntrant → Bool) (old new : RankKey)
     → ((s : KeptEntrant) → p (passed old new s) ≡ p s) → (es : List (ℕ × KeptEntrant))
-    → values_of (map (passed_by old new) es) ≡ map (passed old new) (values_of es)
-same_count p old new same [] = refl
-same_count p old new same (e ∷ es) =
-    ap (λ ss. passed old new e.1 ∷ ss) (same_count p old new same es)
-
-count_same : (p : KeptEntrant → Bool) (old new : RankKey)
-    → ((s : KeptEntrant) → p (passed old new s) ≡ p s) → (ss : List KeptEntrant)
-    → count_by p (map (passed old new) ss) ≡ count_by p ss
-count_same p old new same [] = refl
-count_same p old new same (s ∷ ss) =
-    sum_by-cons (λ x. cond (p x) 1 0) (passed old new s) (map (passed old new) ss)
-    ∙ ap (λ b. cond b 1 0 + count_by p (map (passed old new) ss)) (same s)
-    ∙ ap (λ m. cond (p s) 1 0 + m) (count_same p old new same ss)
-    ∙ sym (sum_by-cons (λ x. cond (p x) 1 0) s ss)
+    → count_by p (values_of (map (passed_by old new) es)) ≡ count_by p (values_of es)
+count_passed p old new same es =
+    ap (count_by p) (map-map (λ (e : ℕ × KeptEntrant). e.1) (passed_by old new) es)
+    ∙ count_along (λ (e : ℕ × KeptEntrant). passed old new e.1) p (λ e. e.1) p es
+    (λ i d h. same (get_or es i d).1)
 
 -- a count over all, once one of them changed and passed the others
 pub counts_after : (p : KeptEntrant → Bool) (old new : RankKey)
     → ((s : KeptEntrant) → p (passed old new s) ≡ p s)
     → (es : List (ℕ × KeptEntrant)) (i : ℕ) (e : ℕ × KeptEntrant) (s : KeptEntrant) → slice_get es i
-    ≡ Some e
-    → count_by p (values_of (set_value_at (map (passed_by old new) es) i s))
+    ≡ Some e → count_by p (values_of (set_value_at (map (passed_by old new) es) i s))
     ≡ recounted (count_by p (values_of es)) (p e.1) (p s)
 counts_after p old new same es i e s at =
     recounts p (map (passed_by old new) es) i (passed_by old new e) s
     (part_at (passed_by old new) es i e at)
-    ∙ ap (λ m. recounted m (p (passed old new e.1)) (p s))
-    (ap (count_by p) (same_count p old new same es) ∙ count_same p old new same (values_of es))
+    ∙ ap (λ m. recounted m (p (passed old new e.1)) (p s)) (count_passed p old new same es)
     ∙ ap (λ b. recounted (count_by p (values_of es)) b (p s)) (same e.1)
 
 -- how many have started, by what is kept
 started_is : (es : List (ℕ × KeptEntrant))
     → count_by (λ s. list_any is_started_attempt s.row) (values_of es)
     ≡ count_by has_started (entrants_of es)
-started_is [] = refl
-started_is (e ∷ es) =
-    sum_by-cons (λ (s : KeptEntrant). cond (list_any is_started_attempt s.row) 1 0) e.1
-    (values_of es)
-    ∙ ap (λ m. cond (list_any is_started_attempt e.1.row) 1 0 + m) (started_is es)
-    ∙ sym (sum_by-cons (λ (x : Entrant). cond (has_started x) 1 0) (entrant_of e) (entrants_of es))
+started_is es =
+    count_along (λ (e : ℕ × KeptEntrant). e.1) (λ s. list_any is_started_attempt s.row) entrant_of
+    has_started es (λ i d h. refl)
 
 -- how many have started, once one of them has other values
 pub started_after : (rules : Rules) (es : List (ℕ × KeptEntrant)) (i : ℕ) (e : ℕ × KeptEntrant)
@@ -128,8 +90,7 @@ pub started_after : (rules : Rules) (es : List (ℕ × KeptEntrant)) (i : ℕ) (
     ≡ started (as_table false (with_values_at (field_with rules es) i vs))
 started_after rules es i e vs at n is =
     let after : KeptEntrant = record e.1 { row = vs } in
-    ap
-    (λ m. recounted m (list_any is_started_attempt e.1.row) (list_any is_started_attempt vs)) is
+    ap (λ m. recounted m (list_any is_started_attempt e.1.row) (list_any is_started_attempt vs)) is
     ∙ sym (recounts (λ s. list_any is_started_attempt s.row) es i e after at)
     ∙ started_is (set_value_at es i after)
     ∙ ap (count_by has_started) (rows_set es i after)
@@ -152,69 +113,30 @@ module _ (rules : Rules) (es : List (ℕ × KeptEntrant)) (i : ℕ) (e : ℕ × 
   abbrev pub changed_lines : List (ℕ × KeptEntrant)
   changed_lines = set_value_at (map (passed_by old_key new_key) es) i s
 
-  place_after : (k : RankKey)
-      → place_among (values_of changed_lines) k
+  place_after : (k : RankKey) → place_among (values_of changed_lines) k
       ≡ recounted (place_among (values_of es) k) (is_better old_key k) (is_better new_key k)
   place_after k =
       ap (λ m. 1 + m)
       (counts_after (λ x. is_better x.kept.key k) old_key new_key (λ x. refl) es i e s at)
-      ∙ sym
-      (recounted_place _ (is_better old_key k) (is_better new_key k)
+      ∙ sym (recounted_place _ (is_better old_key k) (is_better new_key k)
       (is_counted_in (λ x. is_better x.kept.key k) es i e at))
 
-  placed_after : All (IsPlaced (values_of es)) es
-      → s.kept.place ≡ place_among (values_of changed_lines) new_key
-      → All (IsPlaced (values_of changed_lines)) changed_lines
-  placed_after placed own =
-      set_all (IsPlaced (values_of changed_lines)) (map (passed_by old_key new_key) es) i s
-      (pass_each (IsPlaced (values_of es)) (IsPlaced (values_of changed_lines)) old_key new_key
-      (λ x h.
-      ap (λ m. recounted m (is_better old_key x.1.kept.key) (is_better new_key x.1.kept.key)) h
-      ∙ sym (place_after x.1.kept.key))
-      es placed)
-      (λ n. own)
-
-  made_after : All (IsMade rules) es → s.kept ≡ kept_of rules s.row s.kept.place
-      → All (IsMade rules) changed_lines
-  made_after made own =
-      set_all (IsMade rules) (map (passed_by old_key new_key) es) i s
-      (pass_each (IsMade rules) (IsMade rules) old_key new_key
-      (λ x h.
-      ap
-      (λ (k : EntrantResult).
-      record k {
-        place =
-            recounted x.1.kept.place (is_better old_key x.1.kept.key)
-            (is_better new_key x.1.kept.key);
-      })
-      h)
-      es made)
-      (λ n. own)
-
-  within_after : All (IsAllotted rules) es → length s.row ≤ allotted rules.format rules.cutoff s.row
-      → All (IsAllotted rules) changed_lines
-  within_after within own =
-      set_all (IsAllotted rules) (map (passed_by old_key new_key) es) i s
-      (pass_each (IsAllotted rules) (IsAllotted rules) old_key new_key (λ x h. h) es within)
-      (λ n. own)
-
-  ranged_after : All (IsRanged rules) es → All (IsInRangeOf rules.unit) s.row
-      → All (IsRanged rules) changed_lines
-  ranged_after ranged own =
-      set_all (IsRanged rules) (map (passed_by old_key new_key) es) i s
-      (pass_each (IsRanged rules) (IsRanged rules) old_key new_key (λ x h. h) es ranged)
-      (λ n. own)
+  -- what holds of each line after the change
+  each_after : (P Q : ℕ × KeptEntrant → Type 0)
+      → ((x : ℕ × KeptEntrant) → P x → Q (passed_by old_key new_key x))
+      → All P es → ((n : ℕ) → Q (n, s)) → All Q changed_lines
+  each_after P Q step h own =
+      set_all Q (map (passed_by old_key new_key) es) i s (All-map Q (passed_by old_key new_key) es
+      (All-weaker P (λ x. Q (passed_by old_key new_key x)) step es h)) own
 
   -- what is kept stays true
   pub up_to_date_after : (started unfinished with_result ahead : ℕ)
       → AreUpToDate rules es started unfinished with_result
-      → length s.row ≤ allotted rules.format rules.cutoff s.row
-      → All (IsInRangeOf rules.unit) s.row
+      → length s.row ≤ allotted rules.format rules.cutoff s.row → All (IsInRangeOf rules.unit) s.row
       → s.kept ≡ kept_of rules s.row s.kept.place
       → ahead ≡ count_by (λ x. is_better x.kept.key new_key) (values_of es)
       → s.kept.place ≡ 1 + recounted ahead (is_better old_key new_key) false
-      → ((n : ℕ) → HasPackedKey (n, s))
-      → AreUpToDate rules changed_lines
+      → ((n : ℕ) → HasPackedKey (n, s)) → AreUpToDate rules changed_lines
       (recounted started (list_any is_started_attempt e.1.row) (list_any is_started_attempt s.row))
       (recounted unfinished (is_unfinished rules e.1.row) (is_unfinished rules s.row))
       (recounted with_result (is_better old_key no_result) (is_better new_key no_result))
@@ -230,29 +152,37 @@ module _ (rules : Rules) (es : List (ℕ × KeptEntrant)) (i : ℕ) (e : ℕ × 
             );
         cutoff = before.cutoff;
         format = before.format;
-        made = made_after before.made own;
-        placed = placed_after before.placed
-            (is_place
+        made =
+            each_after (IsMade rules) (IsMade rules) (λ x h.
+            ap (λ (k : EntrantResult).
+            record k {
+              place =
+                  recounted x.1.kept.place (is_better old_key x.1.kept.key)
+                  (is_better new_key x.1.kept.key);
+            })
+            h)
+            before.made (λ n. own);
+        placed =
+            each_after (IsPlaced (values_of es)) (IsPlaced (values_of changed_lines)) (λ x h.
+            ap (λ m. recounted m (is_better old_key x.1.kept.key) (is_better new_key x.1.kept.key)) h
+            ∙ sym (place_after x.1.kept.key)) before.placed (λ n.
+            is_place
             ∙ ap (λ m. 1 + recounted m (is_better old_key new_key) false) is_ahead
-            ∙ ap
-            (λ b.
+            ∙ ap (λ b.
             1 + recounted (count_by (λ x. is_better x.kept.key new_key) (values_of es))
-            (is_better old_key new_key) b)
-            (sym (not_better new_key))
-            ∙ ap (λ m. 1 + m)
-            (sym
+            (is_better old_key new_key) b) (sym (not_better new_key))
+            ∙ ap (λ m. 1 + m) (sym
             (counts_after (λ x. is_better x.kept.key new_key) old_key new_key (λ x. refl) es i e s
             at)));
-        within = within_after before.within few;
-        ranged = ranged_after before.ranged in_range;
+        within = each_after (IsAllotted rules) (IsAllotted rules) (λ x h. h) before.within (λ n. few);
+        ranged =
+            each_after (IsRanged rules) (IsRanged rules) (λ x h. h) before.ranged (λ n. in_range);
         ordered =
-            set_all HasPackedKey (map (passed_by old_key new_key) es) i s
-            (pass_each HasPackedKey HasPackedKey old_key new_key
-            (λ x h. record { packed_key = h.packed_key; room = h.room }) es before.ordered)
+            each_after HasPackedKey HasPackedKey
+            (λ x h. record { packed_key = h.packed_key; room = h.room }) before.ordered
             has_packed_key;
         counts_started =
-            ap
-            (λ m.
+            ap (λ m.
             recounted m (list_any is_started_attempt e.1.row) (list_any is_started_attempt s.row))
             before.counts_started
             ∙ sym
@@ -273,13 +203,6 @@ module _ (rules : Rules) (es : List (ℕ × KeptEntrant)) (i : ℕ) (e : ℕ × 
 
 -- What a call read and worked out
 
--- the line of what is read at an index
-pub line_read : (es : List (ℕ × KeptEntrant)) (i : ℕ) (s : KeptEntrant)
-    → slice_get (values_of es) i ≡ Some s → (n : ℕ) × (slice_get es i ≡ Some (n, s))
-line_read [] i s at = cc
-line_read (x ∷ es) zero s at = let same : x.1 ≡ s = cc in (x.0, ap (λ y. Some (x.0, y)) same)
-line_read (x ∷ es) (suc i) s at = line_read es i s at
-
 -- who is counted is in the count
 pub is_in_count : (p : KeptEntrant → Bool) (es : List (ℕ × KeptEntrant)) (i : ℕ) (s : KeptEntrant)
     → slice_get (values_of es) i ≡ Some s → (b : Bool) (n : ℕ) → b ≡ p s
@@ -294,8 +217,7 @@ recounted_same n a b x y one other r is =
     sym (is ∙ ap (λ z. recounted n z b) one ∙ ap (recounted n x) other)
 
 pub up_to_date_same : (rules : Rules) (es es' : List (ℕ × KeptEntrant)) (st st' un un' ra ra' : ℕ)
-    → es ≡ es'
-    → st ≡ st' → un ≡ un' → ra ≡ ra' → AreUpToDate rules es st un ra
+    → es ≡ es' → st ≡ st' → un ≡ un' → ra ≡ ra' → AreUpToDate rules es st un ra
     → AreUpToDate rules es' st' un' ra'
 up_to_date_same rules es es' st st' un un' ra ra' lines a b c h =
     subst (λ x. AreUpToDate rules x st' un' ra') lines

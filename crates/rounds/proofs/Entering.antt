@@ -2,23 +2,15 @@
 use Rattle.std.proofs.Common.{◌≡◌, ℕ, ◌+◌, ◌<◌, ◌≤◌, Bool, true, false, cond, ◌&&◌, List, [], ◌∷◌}
 use Rattle.std.proofs.Common.{◌++◌, length, All, count_by, nat_lt, Option, None, Some, refl, sym}
 use Rattle.std.proofs.Common.{ap, ◌∙◌, arith, subst, length-append}
-use Rattle.std.specs.List.{list_any, AllByRecursion}
-use Rattle.std.specs.Map.{values_of}
-use Rattle.std.proofs.lemmas.Bool.Decides.{nat_tests}
-use Rattle.std.proofs.lemmas.List.Elements.{All-from_recursion, recursion_from_All, All-nil}
-use Rattle.std.proofs.lemmas.List.Elements.{All-push}
-use Rattle.std.proofs.lemmas.List.Sums.{sum_by-cons}
-use Rattle.attempts.specs.declared.Value.{Value}
+use Rattle.std.specs.{List.list_any, Map.values_of}
+use Rattle.std.proofs.lemmas.{Bool.Decides.nat_tests, List.Sums.sum_by_push, List.map_push}
+use Rattle.std.proofs.lemmas.List.Elements.{All-push, All-nil, All-weaker}
+use Rattle.attempts.specs.declared.Value.{Value, TheVariants.Dns}
 use Rattle.attempts.specs.Attempts.{IsInRangeOf}
-use Rattle.formats.specs.declared.events.Format.{Format}
-use Rattle.formats.specs.declared.events.Format.TheVariants.{Ao5, Mo3, Bo1, Bo2, Bo3}
-use Rattle.formats.specs.declared.results.RankKey.{RankKey}
-use Rattle.formats.specs.Events.{attempts_of}
-use Rattle.formats.specs.Results.{is_better, is_same}
-use Rattle.rounds.specs.declared.rules.Rules.{Rules}
-use Rattle.rounds.specs.declared.kept.EntrantResult.{EntrantResult}
-use Rattle.attempts.specs.declared.Value.TheVariants.{Dns}
-use Rattle.formats.specs.declared.results.Averaged.TheVariants.{Missing}
+use Rattle.formats.specs.declared.events.Format.{Format, TheVariants.Ao5, TheVariants.Mo3}
+use Rattle.formats.specs.{Events.attempts_of, Results.is_better, Results.is_same}
+use Rattle.formats.specs.declared.results.{RankKey.RankKey, Averaged.TheVariants.Missing}
+use Rattle.rounds.specs.declared.{rules.Rules.Rules, kept.EntrantResult.EntrantResult}
 use Rattle.rounds.specs.declared.kept_entrant.KeptEntrant.{KeptEntrant}
 use Rattle.rounds.specs.Tables.{IsCutoff, allotted, meets, is_started_attempt}
 use Rattle.rounds.specs.model.PackedKeys.{HasPackedKey, HasRoom, packed_key_of}
@@ -36,10 +28,7 @@ none_better k = step (is_same None k.main)
 
 some_attempts : (format : Format) → 0 < attempts_of format
 some_attempts Ao5 = omega arith
-some_attempts Mo3 = omega arith
-some_attempts Bo1 = omega arith
-some_attempts Bo2 = omega arith
-some_attempts Bo3 = omega arith
+some_attempts _ = omega arith
 
 pub some_allotted : (format : Format) (cutoff : Option (ℕ × ℕ)) → IsCutoff format cutoff
     → 0 < allotted format cutoff []
@@ -56,17 +45,9 @@ less_than m h = grind (arith, nat_tests)
 -- a count with one more
 count_push : (p : KeptEntrant → Bool) (es : List (ℕ × KeptEntrant)) (n : ℕ) (s : KeptEntrant)
     → count_by p (values_of (es ++ (n, s) ∷ [])) ≡ count_by p (values_of es) + one_if (p s)
-count_push p [] n s =
-    let one : count_by p (s ∷ []) ≡ one_if (p s) + count_by p [] =
-    sum_by-cons (λ y. cond (p y) 1 0) s [] in
-    omega (arith, one)
-count_push p (e ∷ es) n s =
-    let more : count_by p (values_of ((e ∷ es) ++ (n, s) ∷ []))
-    ≡ one_if (p e.1) + count_by p (values_of (es ++ (n, s) ∷ [])) =
-    sum_by-cons (λ y. cond (p y) 1 0) e.1 (values_of (es ++ (n, s) ∷ [])) in
-    let before : count_by p (values_of (e ∷ es)) ≡ one_if (p e.1) + count_by p (values_of es) =
-    sum_by-cons (λ y. cond (p y) 1 0) e.1 (values_of es) in
-    omega (arith, more, before, count_push p es n s)
+count_push p es n s =
+    ap (count_by p) (map_push (λ (e : ℕ × KeptEntrant). e.1) es (n, s))
+    ∙ sum_by_push (λ x. one_if (p x)) (values_of es) s
 
 -- who is not counted changes no count
 count_push_none : (p : KeptEntrant → Bool) (es : List (ℕ × KeptEntrant)) (n : ℕ) (s : KeptEntrant)
@@ -77,21 +58,12 @@ count_push_one : (p : KeptEntrant → Bool) (es : List (ℕ × KeptEntrant)) (n 
     → p s ≡ true → count_by p (values_of (es ++ (n, s) ∷ [])) ≡ count_by p (values_of es) + 1
 count_push_one p es n s is = omega (arith, count_push p es n s, ap one_if is)
 
-all_step : (P Q : ℕ × KeptEntrant → Type 0) → ((e : ℕ × KeptEntrant) → P e → Q e)
-    → (es : List (ℕ × KeptEntrant)) → All P es → All Q es
-all_step P Q step es h = All-from_recursion Q es (go es (recursion_from_All P es h))
-  where
-    go : (xs : List (ℕ × KeptEntrant)) → AllByRecursion P xs → AllByRecursion Q xs
-    go [] h = h
-    go (x ∷ xs) h = (step x h.0, go xs h.1)
-
 module _ (rules : Rules) (es : List (ℕ × KeptEntrant)) (n : ℕ) (s : KeptEntrant)
     (new : s.kept.key ≡ no_result) where
   place_stays : (k : RankKey)
       → place_among (values_of (es ++ (n, s) ∷ [])) k ≡ place_among (values_of es) k
   place_stays k =
-      ap (λ m. 1 + m)
-      (count_push_none (λ x. is_better x.kept.key k) es n s
+      ap (λ m. 1 + m) (count_push_none (λ x. is_better x.kept.key k) es n s
       (ap (λ x. is_better x k) new ∙ none_better k))
 
   pub up_to_date_entered : (started unfinished with_result : ℕ)
@@ -106,7 +78,7 @@ module _ (rules : Rules) (es : List (ℕ × KeptEntrant)) (n : ℕ) (s : KeptEnt
         format = before.format;
         made = All-push (IsMade rules) es (n, s) before.made own;
         placed = All-push (IsPlaced (values_of (es ++ (n, s) ∷ []))) es (n, s)
-            (all_step (IsPlaced (values_of es)) (IsPlaced (values_of (es ++ (n, s) ∷ [])))
+            (All-weaker (IsPlaced (values_of es)) (IsPlaced (values_of (es ++ (n, s) ∷ [])))
             (λ x h. h ∙ sym (place_stays x.1.kept.key)) es before.placed)
             (let counts_results : with_result + 1 ≡ place_among (values_of es) no_result =
             omega (arith, before.counts_results) in
@@ -123,54 +95,34 @@ module _ (rules : Rules) (es : List (ℕ × KeptEntrant)) (n : ℕ) (s : KeptEnt
         ordered = All-push HasPackedKey es (n, s) before.ordered has_packed_key;
         counts_started =
             before.counts_started
-            ∙ sym
-            (count_push_none (λ x. list_any is_started_attempt x.row) es n s
+            ∙ sym (count_push_none (λ x. list_any is_started_attempt x.row) es n s
             (ap (list_any is_started_attempt) none));
         counts_unfinished =
             (let few : nat_lt 0 (allotted rules.format rules.cutoff []) ≡ true =
             less_than (allotted rules.format rules.cutoff [])
             (some_allotted rules.format rules.cutoff before.cutoff) in
             ap (λ m. m + 1) before.counts_unfinished
-            ∙ sym
-            (count_push_one (λ x. is_unfinished rules x.row) es n s
+            ∙ sym (count_push_one (λ x. is_unfinished rules x.row) es n s
             (ap (is_unfinished rules) none ∙ few)));
         counts_results =
             before.counts_results
-            ∙ sym
-            (count_push_none (λ x. is_better x.kept.key no_result) es n s
+            ∙ sym (count_push_none (λ x. is_better x.kept.key no_result) es n s
             (ap (λ x. is_better x no_result) new ∙ none_better no_result));
       }
 
 -- what no values make
+abbrev pub none_kept : ℕ → EntrantResult
+none_kept place = record { best = Dns; average = Missing; key = no_result; place = place }
+
 pub own_of_none : (rules : Rules) (vs : List Value) (place : ℕ) → vs ≡ []
-    → let k : EntrantResult = record {
-      best = Dns;
-      average = Missing;
-      key = no_result;
-      place = place;
-    } in
-    k ≡ kept_of rules vs place
+    → none_kept place ≡ kept_of rules vs place
 own_of_none rules vs place none =
-    subst
-    (λ ws. let k : EntrantResult =
-    record { best = Dns; average = Missing; key = no_result; place = place } in
-    k ≡ kept_of rules ws place)
-    (sym none) (by rules.format refl)
+    subst (λ ws. none_kept place ≡ kept_of rules ws place) (sym none) (by rules.format refl)
   where
-    by : (format : Format) → rules.format ≡ format
-        → let k : EntrantResult = record {
-          best = Dns;
-          average = Missing;
-          key = no_result;
-          place =
-              place;
-        } in
-        k ≡ kept_of rules [] place
+    by : (format : Format) → rules.format ≡ format → none_kept place ≡ kept_of rules [] place
     by Ao5 is = rw is refl
     by Mo3 is = rw is refl
-    by Bo1 is = rw is refl
-    by Bo2 is = rw is refl
-    by Bo3 is = rw is refl
+    by _ is = rw is refl
 
 -- no values have no key
 pub no_key : (rules : Rules) (place : ℕ) → (kept_of rules [] place).key ≡ no_result
@@ -187,9 +139,7 @@ up_to_date_newcomer rules es n s started unfinished with_result before room new 
     let key : s.kept.key ≡ no_result = ap (λ (k : EntrantResult). k.key) new.kept in
     up_to_date_entered rules es n s key started unfinished with_result before room new.row
     (new.kept ∙ own_of_none rules s.row (with_result + 1) new.row
-    ∙ ap (kept_of rules s.row) (sym at))
-    at
-    (record {
+    ∙ ap (kept_of rules s.row) (sym at)) at (record {
       packed_key = new.packed_key ∙ ap packed_key_of (sym key);
       room = subst HasRoom (sym key) new.room;
     })

@@ -1,17 +1,12 @@
 -- All are finished where nobody is counted as unfinished.
 use Rattle.std.proofs.Common.{◌≡◌, ℕ, ◌+◌, Bool, true, false, ◌&&◌, List, [], ◌∷◌, length, count_by}
 use Rattle.std.proofs.Common.{nat_eq, nat_le, nat_lt, refl, sym, ap, ◌∙◌, arith, cond}
-use Rattle.std.specs.List.{list_all}
-use Rattle.std.specs.Map.{values_of}
-use Rattle.std.proofs.lemmas.Bool.Decides.{nat_tests}
-use Rattle.std.proofs.lemmas.List.Sums.{sum_by-cons}
-use Rattle.rounds.specs.declared.rules.Rules.{Rules}
-use Rattle.rounds.specs.declared.kept_entrant.KeptEntrant.{KeptEntrant}
-use Rattle.rounds.specs.Tables.{Entrant, allotted, is_finished}
-use Rattle.rounds.specs.model.Field.{as_table}
+use Rattle.std.specs.{List.list_all, Map.values_of}
+use Rattle.std.proofs.lemmas.{Bool.Decides.nat_tests, List.Sums.sum_by-cons}
+use Rattle.rounds.specs.declared.{rules.Rules.Rules, kept_entrant.KeptEntrant.KeptEntrant}
+use Rattle.rounds.specs.{Tables.Entrant, model.Field.as_table, model.UpToDate.entrants_of}
+use Rattle.rounds.{specs.Tables.allotted, specs.Tables.is_finished, proofs.EntrantLines.field_with}
 use Rattle.rounds.specs.model.KeptEntrants.{one_if, is_unfinished}
-use Rattle.rounds.specs.model.UpToDate.{entrants_of}
-use Rattle.rounds.proofs.EntrantLines.{field_with}
 
 one_or_more : (done may rest : ℕ) (all : Bool) → nat_eq rest 0 ≡ all
     → nat_eq (one_if (nat_lt done may) + rest) 0 ≡ (nat_le may done && all)
@@ -28,8 +23,7 @@ one_or_more done may rest all h = step (nat_lt done may) refl
         ap (λ m. nat_eq m 0) same ∙ h ∙ ap (λ (x : Bool). x && all) (sym is)
 
 by_lines : (rules : Rules) (es : List (ℕ × KeptEntrant))
-    → nat_eq (count_by (λ s. is_unfinished rules s.row) (values_of es)) 0
-    ≡ list_all
+    → nat_eq (count_by (λ s. is_unfinished rules s.row) (values_of es)) 0 ≡ list_all
     (λ (e : Entrant). nat_le (allotted rules.format rules.cutoff e.values) (length e.values))
     (entrants_of es)
 by_lines rules [] = refl

@@ -1,13 +1,11 @@
 -- Why an attempt, another value or a strike is refused, and when it is not.
-use Rattle.std.proofs.Common.{◌≡◌, ℕ, ◌+◌, ◌≤◌, ◌==◌, nat_le, true, false, length, Some}
-use Rattle.std.proofs.Common.{arith, eq-eqb, refl}
-use Rattle.std.proofs.lemmas.Bool.Decides.{nat_tests}
+use Rattle.std.proofs.Common.{◌≡◌, ℕ, ◌+◌, ◌≤◌, ◌==◌, nat_le, true, false, length, Some, arith}
+use Rattle.std.proofs.{Common.eq-eqb, Common.refl, Common.List, lemmas.Bool.Decides.nat_tests}
 use Rattle.attempts.specs.declared.Value.{Value}
 use Rattle.rounds.specs.Tables.{Entrant, Table, entrant, allotted, put_fault, is_done, replaced}
 use Rattle.rounds.specs.Tables.{loses_cutoff, correct_fault}
 use Rattle.rounds.specs.declared.fault.PutFault.TheVariants as put
 use Rattle.rounds.specs.declared.fault.CorrectFault.TheVariants as correct
-use Rattle.std.proofs.Common.{List}
 
 -- the causes why an attempt is refused, in order
 pub no_more : (t : Table) (n k : ℕ) (e : Entrant) → t.is_closed ≡ false → entrant t n ≡ Some e

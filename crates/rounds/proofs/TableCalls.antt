@@ -1,9 +1,7 @@
 -- A table after a change of one entrant's values, and these values.
 use Rattle.std.proofs.Common.{◌≡◌, ℕ, Bool, List, All, ap, sym, subst, ◌∙◌}
-use Rattle.attempts.specs.declared.Value.{Value}
-use Rattle.attempts.specs.Attempts.{IsInRangeOf}
-use Rattle.rounds.specs.Tables.{Entrant, Table, changed}
-use Rattle.rounds.specs.Rows.{AreValues}
+use Rattle.attempts.specs.{declared.Value.Value, Attempts.IsInRangeOf}
+use Rattle.rounds.specs.{Tables.Entrant, Tables.Table, Tables.changed, Rows.AreValues}
 use Rattle.rounds.specs.model.Field.{Field, as_table, set_values_at, with_values_at, IsEntrantAt}
 
 pub changed_table : (closed : Bool) (f new : Field) (n i : ℕ) (at : IsEntrantAt n f i)

@@ -1,37 +1,28 @@
 -- What a round is: its entrants in order of entry, each with the values so far, and what they make
 -- (WCA Regulations, article 9: cutoffs in 9g, the order in 9f). The most entrants, and when a call
 -- is refused, are the project's own.
-use Rattle.std.specs.Prelude.{◌≡◌, ◌<◌, ◌≤◌, ℕ, ◌+◌, ◌-◌, Bool, true, false, not, ◌==◌, ◌&&◌}
-use Rattle.std.specs.Prelude.{nat_lt, nat_le, if◌then◌else◌, List, [], ◌∷◌, ◌++◌, length, take}
-use Rattle.std.specs.Prelude.{slice_set, map, filter, find, flat_map, count_by, All, Option, None}
-use Rattle.std.specs.Prelude.{Some}
+use Rattle.std.specs.Prelude.{◌≡◌, ◌<◌, ◌≤◌, ℕ, ◌+◌, ◌-◌, not, [], ◌∷◌, map, All, None, Some}
+use Rattle.std.specs.Prelude.{Bool, true, false, ◌==◌, ◌&&◌, List, ◌++◌, take, filter, find, Option}
+use Rattle.std.specs.Prelude.{nat_lt, nat_le, if◌then◌else◌, length, slice_set, flat_map, count_by}
 use Rattle.std.specs.List.{list_any, list_all, range_with_len}
-use Rattle.attempts.specs.declared.Value.{Value}
-use Rattle.attempts.specs.declared.Value.TheVariants as value
-use Rattle.attempts.specs.declared.Unit.{Unit as Measure}
-use Rattle.formats.specs.declared.events.Format.{Format}
-use Rattle.formats.specs.declared.results.RankKey.{RankKey}
-use Rattle.formats.specs.Events.{attempts_of, most_entrants}
-use Rattle.formats.specs.Results.{key_of, is_better}
-use Rattle.rounds.specs.declared.fault.EnterFault.{EnterFault}
-use Rattle.rounds.specs.declared.fault.EnterFault.TheVariants as enter
-use Rattle.rounds.specs.declared.fault.PutFault.{PutFault}
-use Rattle.rounds.specs.declared.fault.PutFault.TheVariants as put
-use Rattle.rounds.specs.declared.fault.CorrectFault.{CorrectFault}
-use Rattle.rounds.specs.declared.fault.CorrectFault.TheVariants as correct
-use Rattle.rounds.specs.declared.fault.SetFault.{SetFault}
-use Rattle.rounds.specs.declared.fault.SetFault.TheVariants as set
-use Rattle.rounds.specs.declared.fault.FixFault.{FixFault}
-use Rattle.rounds.specs.declared.fault.FixFault.TheVariants as fix
-use Rattle.rounds.specs.declared.fault.StrikeFault.{StrikeFault}
-use Rattle.rounds.specs.declared.fault.StrikeFault.TheVariants as strike
-use Rattle.rounds.specs.declared.fault.CloseFault.{CloseFault}
-use Rattle.rounds.specs.declared.fault.CloseFault.TheVariants as close
-use Rattle.rounds.specs.declared.fault.WithdrawFault.{WithdrawFault}
-use Rattle.rounds.specs.declared.fault.WithdrawFault.TheVariants as withdraw
-use Rattle.rounds.specs.declared.fault.RulesFault.{RulesFault}
-use Rattle.rounds.specs.declared.fault.RulesFault.TheVariants as rules
+use Rattle.attempts.specs.declared.{Value.Value, Unit.Unit as Measure}
+use Rattle.formats.specs.{declared.events.Format.Format, Events.attempts_of, Events.most_entrants}
+use Rattle.formats.specs.{declared.results.RankKey.RankKey, Results.key_of, Results.is_better}
+use Rattle.rounds.specs.declared.fault.{EnterFault.EnterFault, PutFault.PutFault, SetFault.SetFault}
+use Rattle.rounds.specs.declared.fault.{CorrectFault.CorrectFault, FixFault.FixFault}
+use Rattle.rounds.specs.declared.fault.{StrikeFault.StrikeFault, CloseFault.CloseFault}
+use Rattle.rounds.specs.declared.fault.{WithdrawFault.WithdrawFault, RulesFault.RulesFault}
 use Rattle.rounds.specs.declared.fault.ReopenFault.{ReopenFault}
+use Rattle.attempts.specs.declared.Value.TheVariants as value
+use Rattle.rounds.specs.declared.fault.EnterFault.TheVariants as enter
+use Rattle.rounds.specs.declared.fault.PutFault.TheVariants as put
+use Rattle.rounds.specs.declared.fault.CorrectFault.TheVariants as correct
+use Rattle.rounds.specs.declared.fault.SetFault.TheVariants as set
+use Rattle.rounds.specs.declared.fault.FixFault.TheVariants as fix
+use Rattle.rounds.specs.declared.fault.StrikeFault.TheVariants as strike
+use Rattle.rounds.specs.declared.fault.CloseFault.TheVariants as close
+use Rattle.rounds.specs.declared.fault.WithdrawFault.TheVariants as withdraw
+use Rattle.rounds.specs.declared.fault.RulesFault.TheVariants as rules
 use Rattle.rounds.specs.declared.fault.ReopenFault.TheVariants as reopen
 
 -- a competitor's number, and the values of the attempts in order

@@ -1,23 +1,19 @@
 //! The entrants of a round, in order of entry, with what is kept of them.
 
-ghost use Rattle.std.specs.Prelude.{◌≡◌, ◌<◌, ◌≤◌, [], None, Some, All, IfOk, IfSome};
-ghost use Rattle.std.specs.Prelude.{OnOk, OnErr, MatchOption, false, find, length, map};
-ghost use Rattle.std.specs.Prelude.{nat_eq, nat_le, slice_get};
-ghost use Rattle.std.specs.List.{list_any, IsDistinct};
-ghost use Rattle.std.specs.List.Sorted.{IsPermutation};
+ghost use Rattle.std.specs.Prelude.{◌≡◌, ◌<◌, ◌≤◌, [], None, Some, All, IfOk, IfSome, OnOk, OnErr};
+ghost use Rattle.std.specs.Prelude.{MatchOption, false, find, length, map, nat_eq, nat_le};
+ghost use Rattle.std.specs.Prelude.{slice_get};
+ghost use Rattle.std.specs.List.{list_any, IsDistinct, Sorted.IsPermutation};
 ghost use Rattle.indexmap.specs.IndexMap.{values};
 ghost use Rattle.attempts.specs.Attempts.{IsInRangeOf};
 ghost use Rattle.formats.specs.Results.{IsFormatOf};
 ghost use Rattle.rounds.specs.Tables.{Entrant, IsCutoff, KeepsAllotted, allotted, has_number};
 ghost use Rattle.rounds.specs.Tables.{has_started, is_finished, number_of_entrant, has_done};
-ghost use Rattle.rounds.specs.Tables.{standings, started};
-ghost use Rattle.rounds.specs.CutoffLaw.{MetIsBetterIn};
-ghost use Rattle.rounds.specs.Positions.{place_at};
+ghost use Rattle.rounds.specs.{Tables.standings, Tables.started, model.UpToDate.IsNewcomer};
+ghost use Rattle.rounds.specs.{CutoffLaw.MetIsBetterIn, Positions.place_at};
 ghost use Rattle.rounds.specs.model.Field.{as_table, with_newcomer, with_values_at, IsEntrantAt};
 ghost use Rattle.rounds.specs.model.Field.{IsKeptEntrantOf, IsWithoutAttempts, without_at};
-ghost use Rattle.rounds.specs.model.Field.{with_field_rules};
-ghost use Rattle.rounds.specs.model.KeptEntrants.{is_unfinished};
-ghost use Rattle.rounds.specs.model.UpToDate.{IsNewcomer};
+ghost use Rattle.rounds.specs.model.{Field.with_field_rules, KeptEntrants.is_unfinished};
 
 use crate::cutoff::{allotted, has_started};
 use crate::kept::EntrantResult;

@@ -1,8 +1,7 @@
 //! A key as one number: such numbers are compared without a branch.
 
 ghost use Rattle.std.specs.Prelude.{◌≡◌};
-ghost use Rattle.formats.specs.declared.results.RankKey.{RankKey as Key};
-ghost use Rattle.formats.specs.Results.{is_better};
+ghost use Rattle.formats.specs.{declared.results.RankKey.RankKey as Key, Results.is_better};
 ghost use Rattle.rounds.specs.model.PackedKeys.{number_or, packed_key_of, IsBelow, HasRoom};
 
 use formats::RankKey;

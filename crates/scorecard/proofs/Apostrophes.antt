@@ -1,8 +1,7 @@
 -- A text is mended byte by byte.
-use Rattle.std.proofs.Common.{◌≡◌, ℕ, zero, suc, ◌+◌, ◌-◌, ◌<◌, true, false, List, []}
-use Rattle.std.proofs.Common.{◌∷◌, ◌++◌, length, take, drop, get_or, bytes_eq, refl, sym, ap, ◌∙◌}
-use Rattle.std.proofs.Common.{arith, append_assoc}
-use Rattle.std.proofs.lemmas.List.{at_drop_more}
+use Rattle.std.proofs.Common.{◌≡◌, ℕ, zero, suc, ◌+◌, ◌-◌, ◌<◌, true, false, List, [], ◌∷◌, ◌++◌}
+use Rattle.std.proofs.Common.{length, take, drop, get_or, bytes_eq, refl, sym, ap, ◌∙◌, arith}
+use Rattle.std.proofs.{Common.append_assoc, lemmas.List.at_drop_more}
 use Rattle.scorecard.specs.Spelling.{apostrophe, mended_after}
 
 -- what is left after one byte

@@ -1,20 +1,15 @@
 -- What a text begins with tells a time, a result and a solution from the words of no result.
-use Rattle.std.proofs.Common.{◌≡◌, ◌⊎◌, inl, inr, ℕ, ◌<◌, ◌≤◌, Bool, true, false}
-use Rattle.std.proofs.Common.{◌||◌, not, List, [], ◌∷◌, ◌++◌, length, map}
-use Rattle.std.proofs.Common.{get_or, codes, decimal, bytes_eq, refl, sym, ap, ◌∙◌}
-use Rattle.std.proofs.Common.{subst, arith}
-use Rattle.std.specs.Char.{is_ascii_digit, to_ascii_lowercase}
-use Rattle.std.specs.List.{list_all}
+use Rattle.std.proofs.Common.{◌≡◌, ◌⊎◌, inl, inr, ℕ, ◌<◌, ◌≤◌, Bool, true, false, ◌||◌, not, List}
+use Rattle.std.proofs.Common.{[], ◌∷◌, ◌++◌, length, map, get_or, codes, decimal, bytes_eq, refl}
+use Rattle.std.proofs.Common.{sym, ap, ◌∙◌, subst, arith}
+use Rattle.std.specs.{Char.is_ascii_digit, Char.to_ascii_lowercase, List.list_all}
 use Rattle.std.proofs.lemmas.Bool.{false≢true}
-use Rattle.std.proofs.lemmas.Bool.Decides.{nat_tests}
-use Rattle.std.proofs.lemmas.Fmt.{decimal_nonempty}
+use Rattle.std.proofs.lemmas.{Bool.Decides.nat_tests, Fmt.decimal_nonempty}
 use Rattle.attempts.specs.declared.Unit.{Unit as Measure}
 use Rattle.attempts.specs.declared.Unit.TheVariants.{Time, Moves, Multi}
-use Rattle.texts.proofs.Cuts.{and-true}
-use Rattle.texts.proofs.Spelled.{bytes_eq-equal}
-use Rattle.texts.proofs.FieldSpellings.{decimal_digits}
-use Rattle.scorecard.specs.Spelling.{EndsInPair, IsFilled, IsSeconds, IsMinutes, IsTimed}
-use Rattle.scorecard.specs.Spelling.{points, colons, IsMulti, is_word, is_dnf, is_dns}
+use Rattle.texts.proofs.{Cuts.and-true, Spelled.bytes_eq-equal, FieldSpellings.decimal_digits}
+use Rattle.scorecard.specs.Spelling.{EndsInPair, IsFilled, IsSeconds, IsMinutes, IsTimed, points}
+use Rattle.scorecard.specs.Spelling.{colons, IsMulti, is_word, is_dnf, is_dns}
 
 -- a digit is first
 abbrev pub BeginsWithDigit : List ℕ → Type 0
@@ -107,8 +102,7 @@ no_dnf Time text h =
     by_cases (is_dnf Time text)
     (λ is. word_begins (codes "d" ∷ codes "dnf" ∷ codes "/" ∷ []) text refl is h)
 no_dnf Moves text h =
-    by_cases (is_dnf Moves text)
-    (λ is. word_begins (codes "dnf" ∷ codes "/" ∷ []) text refl is h)
+    by_cases (is_dnf Moves text) (λ is. word_begins (codes "dnf" ∷ codes "/" ∷ []) text refl is h)
 no_dnf Multi text h =
     by_cases (is_dnf Multi text)
     (λ is. word_begins (codes "d" ∷ codes "dnf" ∷ codes "/" ∷ []) text refl is h)
@@ -118,8 +112,7 @@ no_dns Time text h =
     by_cases (is_dns Time text)
     (λ is. word_begins (codes "s" ∷ codes "dns" ∷ codes "*" ∷ []) text refl is h)
 no_dns Moves text h =
-    by_cases (is_dns Moves text)
-    (λ is. word_begins (codes "dns" ∷ codes "*" ∷ []) text refl is h)
+    by_cases (is_dns Moves text) (λ is. word_begins (codes "dns" ∷ codes "*" ∷ []) text refl is h)
 no_dns Multi text h =
     by_cases (is_dns Multi text)
     (λ is. word_begins (codes "s" ∷ codes "dns" ∷ codes "*" ∷ []) text refl is h)

@@ -1,19 +1,44 @@
 -- Digits, and pairs of them at the end: what is read is what is spelled.
-use Rattle.std.proofs.Common.{◌≡◌, ℕ, ◌+◌, ◌-◌, ◌*◌, ◌≤◌, Bool, true, false, ◌&&◌}
-use Rattle.std.proofs.Common.{nat_le, not, ◌||◌, ◌==◌}
-use Rattle.std.proofs.Common.{List, [], ◌∷◌, ◌++◌, length, take, drop, get_or, Option, Some, None}
-use Rattle.std.proofs.Common.{refl, sym, ap, ◌∙◌, arith, take-append-drop, length-append, eqb-true}
-use Rattle.std.specs.Char.{is_ascii_digit}
-use Rattle.std.specs.List.{list_all}
-use Rattle.std.proofs.lemmas.Bool.Decides.{nat_tests}
+use Rattle.std.proofs.Common.{◌≡◌, ℕ, ◌+◌, ◌-◌, ◌*◌, ◌≤◌, Bool, true, false, ◌&&◌, nat_le, not}
+use Rattle.std.proofs.Common.{◌||◌, ◌==◌, List, [], ◌∷◌, ◌++◌, length, take, drop, get_or, Option}
+use Rattle.std.proofs.Common.{Some, None, refl, sym, ap, ◌∙◌, arith, take-append-drop, eqb-true}
+use Rattle.std.{proofs.Common.length-append, specs.Char.is_ascii_digit, specs.List.list_all}
+use Rattle.std.proofs.lemmas.{Bool.Decides.nat_tests, List.Folds.list_all-append}
 use Rattle.std.proofs.lemmas.List.{take_at, get_or_at, drop_more, drop_all, get_or-append-add}
-use Rattle.texts.specs.Numerals.{digits_value}
-use Rattle.std.proofs.lemmas.List.Folds.{list_all-append}
+use Rattle.texts.{specs.Numerals.digits_value, proofs.Cuts.and-true, proofs.Spelled.chosen}
 use Rattle.std.proofs.lemmas.Bool.{false≢true}
-use Rattle.texts.proofs.Cuts.{and-true}
-use Rattle.texts.proofs.Spelled.{chosen}
 use Rattle.scorecard.specs.Spelling.{AreDigits, EndsInPair, is_among}
-use Rattle.scorecard.specs.Reading.{number_of, last_but, pair_of}
+use Rattle.scorecard.specs.Reading.{number_of, last_but, pair_of, or_fault, ◌>>=◌}
+use Rattle.scorecard.specs.declared.fault.ScorecardFault.{ScorecardFault}
+use Rattle.std.proofs.Common.{Result, Ok, Err, cond}
+
+-- what is read in two steps
+pub record Bound {A B : Type 0} (o : Result A ScorecardFault) (f : A → Result B ScorecardFault)
+    (x : B) : Type 0 where
+  pub value : A
+  pub was : o ≡ Ok value
+  pub next : f value ≡ Ok x
+
+pub bind_ok : {A B : Type 0} (o : Result A ScorecardFault) (f : A → Result B ScorecardFault) (x : B)
+    → (o >>= f) ≡ Ok x → Bound o f x
+bind_ok (Err e) f x h = absurd (let bad : Err e ≡ Ok x = h in cc)
+bind_ok (Ok a) f x h = record { value = a; was = refl; next = h }
+
+pub or_fault_ok : {A : Type 0} (e : ScorecardFault) (o : Option A) (x : A) → or_fault e o ≡ Ok x
+    → o ≡ Some x
+or_fault_ok e None x h = absurd (let bad : Err e ≡ Ok x = h in cc)
+or_fault_ok e (Some y) x h = let same : Ok y ≡ Ok x = h in cc
+
+-- what is read where a test is passed, and where none is met
+pub kept_ok : {A : Type 0} (b : Bool) (y x : A) (e : ScorecardFault) → cond b (Ok y) (Err e) ≡ Ok x
+    → (b ≡ true) × (y ≡ x)
+kept_ok true y x e h = (refl, let same : Ok y ≡ Ok x = h in cc)
+kept_ok false y x e h = absurd (let bad : Err e ≡ Ok x = h in cc)
+
+pub spared_ok : {A : Type 0} (b : Bool) (y x : A) (e : ScorecardFault)
+    → cond b (Err e) (Ok y) ≡ Ok x → (b ≡ false) × (y ≡ x)
+spared_ok true y x e h = absurd (let bad : Err e ≡ Ok x = h in cc)
+spared_ok false y x e h = (refl, let same : Ok y ≡ Ok x = h in cc)
 
 -- no digit
 abbrev pub is_no_digit : ℕ → Bool
@@ -60,8 +85,7 @@ last_three bytes long =
     drop_more bytes (length bytes - 1) 0 (omega arith) in
     let d : drop (length bytes - 1 + 1) bytes ≡ [] = drop_all _ bytes (omega arith) in
     sym (take-append-drop (length bytes - 3) bytes)
-    ∙ ap (λ x. take (length bytes - 3) bytes ++ x)
-    (a ∙ ap (λ x. last_but 3 bytes ∷ x)
+    ∙ ap (λ x. take (length bytes - 3) bytes ++ x) (a ∙ ap (λ x. last_but 3 bytes ∷ x)
     (ap (λ i. drop i bytes) one
     ∙ b ∙ ap (λ x. last_but 2 bytes ∷ x)
     (ap (λ i. drop i bytes) two ∙ c ∙ ap (λ x. last_but 1 bytes ∷ x) d)))
@@ -75,8 +99,7 @@ unfolding pair_of
 pair-read marks bytes front n h =
     let yes =
     chosen (nat_le 3 (length bytes) && is_among marks (last_but 3 bytes)
-    && is_ascii_digit (last_but 2 bytes) && is_ascii_digit (last_but 1 bytes))
-    (Some (
+    && is_ascii_digit (last_but 2 bytes) && is_ascii_digit (last_but 1 bytes)) (Some (
       take (length bytes - 3) bytes,
       10 * (last_but 2 bytes - 48) + (last_but 1 bytes - 48),
     ))

@@ -1,38 +1,27 @@
 -- What was entered, as a page fills a field in with it, is read back.
 use Rattle.std.proofs.Common.{◌≡◌, ℕ, zero, suc, ◌*◌, ◌<◌, ◌≤◌, inl, inr, true, false, ◌==◌, not}
-use Rattle.std.proofs.Common.{List, [], ◌∷◌, ◌++◌, length, get_or, codes, decimal}
-use Rattle.std.proofs.Common.{refl, sym, ap, ◌∙◌, subst, arith, append_assoc}
-use Rattle.std.specs.Char.{is_ascii_whitespace}
-use Rattle.std.specs.List.{list_all}
-use Rattle.std.proofs.lemmas.Bool.Decides.{nat_tests}
-use Rattle.std.proofs.lemmas.List.{append-nil}
-use Rattle.std.proofs.lemmas.List.Folds.{list_all-append}
-use Rattle.attempts.specs.declared.Unit.{Unit as Measure}
+use Rattle.std.proofs.Common.{List, [], ◌∷◌, ◌++◌, length, get_or, codes, decimal, refl, sym, ap}
+use Rattle.std.proofs.Common.{◌∙◌, subst, arith, append_assoc}
+use Rattle.std.specs.{Char.is_ascii_whitespace, List.list_all}
+use Rattle.std.proofs.lemmas.{Bool.Decides.nat_tests, List.append-nil, List.Folds.list_all-append}
+use Rattle.attempts.specs.{declared.Unit.Unit as Measure, Texts.multi_text, Texts.time_text}
 use Rattle.attempts.specs.declared.Unit.TheVariants.{Time, Moves, Multi}
-use Rattle.attempts.specs.Texts.{multi_text, time_text}
-use Rattle.cube.specs.declared.moves.Side.{Side}
+use Rattle.cube.specs.declared.moves.{Side.Side, Axis.Axis, Kind.Kind, Quarter.Quarter, Move.Move}
 use Rattle.cube.specs.declared.moves.Side.TheVariants.{U, R, F, D, L, B}
-use Rattle.cube.specs.declared.moves.Axis.{Axis}
 use Rattle.cube.specs.declared.moves.Axis.TheVariants.{X, Y, Z}
-use Rattle.cube.specs.declared.moves.Kind.{Kind}
 use Rattle.cube.specs.declared.moves.Kind.TheVariants.{Face, Block, Turn}
-use Rattle.cube.specs.declared.moves.Quarter.{Quarter}
 use Rattle.cube.specs.declared.moves.Quarter.TheVariants.{Clockwise, Half, Anticlockwise}
-use Rattle.cube.specs.declared.moves.Move.{Move}
 use Rattle.cube.specs.notation.Notation.{Spells as SpellsMoves, spelling}
 use Rattle.cube.specs.notation.Tokens.{axis_letter, mark, side_letter, stem, token}
 use Rattle.cube.proofs.notation.Scanning.{spelling_spells}
 use Rattle.texts.proofs.Cuts.{and-true, lacks}
-use Rattle.texts.specs.declared.command.Entered.{Entered}
-use Rattle.texts.specs.declared.command.Entered.TheVariants as entered
-use Rattle.texts.specs.Spelling.{IsEntered}
+use Rattle.texts.specs.{declared.command.Entered.Entered, Spelling.IsEntered}
 use Rattle.scorecard.specs.Laws.{EnteredReadsBack, IsEnteredIn}
 use Rattle.scorecard.specs.Spelling.{IsPenalty, IsTimed, Spells, SpellsBare, mended, trimmed}
 use Rattle.scorecard.specs.Typed.{entered_typed, penalty_text}
-use Rattle.scorecard.proofs.Begins.{multi_begins}
-use Rattle.scorecard.proofs.Sheets.{HasEnds, multi_ends, multi_spelled, number_ends}
-use Rattle.scorecard.proofs.Sheets.{time_spelled, trimmed_same}
-use Rattle.scorecard.proofs.Starts.{mended_first}
+use Rattle.scorecard.proofs.{Begins.multi_begins, Sheets.trimmed_same, Starts.mended_first}
+use Rattle.scorecard.proofs.Sheets.{HasEnds, multi_ends, multi_spelled, number_ends, time_spelled}
+use Rattle.texts.specs.declared.command.Entered.TheVariants as entered
 
 -- a text with no white space around it spells what it spells without it
 bare : (unit : Measure) (text : List ℕ) (x : Entered) → HasEnds text → SpellsBare unit text x
@@ -68,8 +57,7 @@ penalty_is : (p : ℕ) → p ≤ 9 → IsPenalty (penalty_text p) p
 penalty_is zero few = inl (refl, refl)
 penalty_is (suc n) few = inr (inr (inr (refl, omega arith, few)))
 
-timed_ends : (t p : ℕ) → HasEnds (time_text t) → p ≤ 9
-    → HasEnds (time_text t ++ penalty_text p)
+timed_ends : (t p : ℕ) → HasEnds (time_text t) → p ≤ 9 → HasEnds (time_text t ++ penalty_text p)
 timed_ends t zero ends few = subst HasEnds (sym (append-nil (time_text t))) ends
 timed_ends t (suc n) ends few =
     after (time_text t) (penalty_text (suc n)) ends
@@ -79,8 +67,7 @@ time_back : (t p : ℕ) → 1 ≤ t → t ≤ 999999 → p ≤ 9
     → Spells Time (entered_typed (entered.Time t p)) (entered.Time t p)
 time_back t p some most few =
     let spelled = time_spelled t some most in
-    bare Time (time_text t ++ penalty_text p) (entered.Time t p)
-    (timed_ends t p spelled.0 few)
+    bare Time (time_text t ++ penalty_text p) (entered.Time t p) (timed_ends t p spelled.0 few)
     (record {
       front = time_text t;
       mark = penalty_text p;
@@ -192,8 +179,7 @@ moves_ends (m ∷ n ∷ moves) some =
 moves_back : (moves : List Move) → 1 ≤ length moves → length moves ≤ 400
     → Spells Moves (spelling moves) (entered.Solution moves)
 moves_back moves some few =
-    bare Moves (spelling moves) (entered.Solution moves) (moves_ends moves (omega arith))
-    (record {
+    bare Moves (spelling moves) (entered.Solution moves) (moves_ends moves (omega arith)) (record {
       tokens =
           subst (λ (t : List ℕ). SpellsMoves t moves)
           (sym (mended_same (spelling moves) (moves_lack moves)))
@@ -215,12 +201,7 @@ back Multi entered.Dnf fits is = refl
 back Time entered.Dns fits is = refl
 back Moves entered.Dns fits is = refl
 back Multi entered.Dns fits is = refl
-back Time (entered.Solution moves) fits is = absurd is
-back Time (entered.Multi s a t) fits is = absurd is
-back Moves (entered.Time t p) fits is = absurd is
-back Moves (entered.Multi s a t) fits is = absurd is
-back Multi (entered.Time t p) fits is = absurd is
-back Multi (entered.Solution moves) fits is = absurd is
+back _ _ fits is = absurd is
 
 pub entered_back : EnteredReadsBack
 entered_back unit x fits is = back unit x fits is

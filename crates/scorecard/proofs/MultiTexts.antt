@@ -1,26 +1,21 @@
 -- Results of multi-blind: what is read is what is spelled.
-use Rattle.std.proofs.Common.{◌≡◌, ◌⊎◌, inl, inr, ℕ, ◌+◌, ◌*◌, ◌/◌, ◌%◌, ◌≤◌, Bool, true, false}
-use Rattle.std.proofs.Common.{◌&&◌, cond, nat_le, List, [], ◌∷◌, ◌++◌, codes, decimal, Option, Some}
-use Rattle.std.proofs.Common.{None, Result, Ok, Err, refl, sym, ap, ◌∙◌, arith, append_assoc}
-use Rattle.std.proofs.Common.{not, ◌==◌}
-use Rattle.std.specs.Char.{is_ascii_digit}
-use Rattle.std.specs.List.{list_all}
-use Rattle.std.proofs.lemmas.Bool.Decides.{nat_tests}
+use Rattle.std.proofs.Common.{◌≡◌, ◌⊎◌, inl, inr, ℕ, ◌+◌, ◌*◌, ◌/◌, ◌%◌, true, ◌==◌}
+use Rattle.std.proofs.{Common.false, lemmas.Bool.Decides.nat_tests}
+use Rattle.std.proofs.Common.{◌&&◌, nat_le, List, [], ◌∷◌, ◌++◌, codes, decimal, Option, Some}
+use Rattle.std.proofs.Common.{None, Ok, Err, refl, sym, ap, ◌∙◌, arith, append_assoc, not}
+use Rattle.std.specs.{Char.is_ascii_digit, List.list_all}
 use Rattle.texts.proofs.Cuts.{and-true, lacks, behind, cut_spelled, cut-behind}
 use Rattle.texts.proofs.FieldSpellings.{number_spelled, decimal_no_space, decimal_digits}
-use Rattle.texts.specs.Spelling.{IsWithin}
-use Rattle.texts.proofs.Spelled.{IsSpelled}
-use Rattle.texts.specs.Fields.{cut, number_between}
-use Rattle.texts.specs.declared.command.Entered.{Entered}
-use Rattle.texts.specs.declared.command.Entered.TheVariants as entered
-use Rattle.scorecard.specs.declared.fault.ScorecardFault.{ScorecardFault}
-use Rattle.scorecard.specs.declared.fault.ScorecardFault.TheVariants as fault
-use Rattle.scorecard.specs.Spelling.{EndsInPair, IsFilledSeconds, IsMinutesSeconds}
-use Rattle.scorecard.specs.Spelling.{IsMulti}
-use Rattle.scorecard.specs.Reading.{number_of, pair_of, filled_seconds, seconds_after, ◌>>=◌}
+use Rattle.texts.specs.{Spelling.IsWithin, declared.command.Entered.Entered}
+use Rattle.texts.{proofs.Spelled.IsSpelled, specs.Fields.cut, specs.Fields.number_between}
+use Rattle.scorecard.specs.Spelling.{EndsInPair, IsFilledSeconds, IsMinutesSeconds, IsMulti}
+use Rattle.scorecard.specs.Reading.{number_of, pair_of, filled_seconds, seconds_after}
 use Rattle.scorecard.specs.Reading.{whole_seconds_with, whole_seconds_of, or_fault, solved_of}
 use Rattle.scorecard.specs.Reading.{some_seconds, multi_of}
 use Rattle.scorecard.proofs.DigitTexts.{digits-read, digits-found, pair-read, pair-found, pair-none}
+use Rattle.texts.specs.declared.command.Entered.TheVariants as entered
+use Rattle.scorecard.specs.declared.fault.ScorecardFault.TheVariants as fault
+use Rattle.scorecard.proofs.DigitTexts.{bind_ok, or_fault_ok, kept_ok, spared_ok}
 
 abbrev IsWhole : List ℕ → ℕ → Type 0
 IsWhole text time = IsFilledSeconds text time ⊎ IsMinutesSeconds text time
@@ -30,17 +25,16 @@ IsWhole text time = IsFilledSeconds text time ⊎ IsMinutesSeconds text time
 filled-read : (text : List ℕ) (time : ℕ) (o : Option ℕ) → number_of 4 text ≡ o
     → filled_seconds o ≡ Ok time → IsFilledSeconds text time
 filled-read text time None is h = absurd (let bad : Err fault.NotAResult ≡ Ok time = h in cc)
-filled-read text time (Some n) is h = step (nat_le 100 n && nat_le 60 (n % 100)) refl h
-  where
-    step : (b : Bool) → (nat_le 100 n && nat_le 60 (n % 100)) ≡ b
-        → cond b (Err fault.BadSeconds) (Ok (60 * (n / 100) + n % 100)) ≡ Ok time
-        → IsFilledSeconds text time
-    step true e r = absurd (let bad : Err fault.BadSeconds ≡ Ok time = r in cc)
-    step false e r = record {
+filled-read text time (Some n) is h =
+    let kept =
+    spared_ok (nat_le 100 n && nat_le 60 (n % 100)) (60 * (n / 100) + n % 100) time
+    fault.BadSeconds h in
+    let few : (nat_le 100 n && nat_le 60 (n % 100)) ≡ false = kept.0 in
+    record {
       number = n;
       digits = digits-read 4 text n is;
       seconds = λ many. grind (arith, nat_tests);
-      value = cc;
+      value = sym kept.1;
     }
 
 minutes-read : (text front : List ℕ) (time s : ℕ) → EndsInPair (codes ":") text front s
@@ -48,19 +42,17 @@ minutes-read : (text front : List ℕ) (time s : ℕ) → EndsInPair (codes ":")
     → IsMinutesSeconds text time
 minutes-read text front time s back None is h =
     absurd (let bad : Err fault.NotAResult ≡ Ok time = h in cc)
-minutes-read text front time s back (Some m) is h = step (nat_le 60 s) refl h
-  where
-    step : (b : Bool) → nat_le 60 s ≡ b
-        → cond b (Err fault.BadSeconds) (Ok (60 * m + s)) ≡ Ok time → IsMinutesSeconds text time
-    step true e r = absurd (let bad : Err fault.BadSeconds ≡ Ok time = r in cc)
-    step false e r = record {
+minutes-read text front time s back (Some m) is h =
+    let kept = spared_ok (nat_le 60 s) (60 * m + s) time fault.BadSeconds h in
+    let few : nat_le 60 s ≡ false = kept.0 in
+    record {
       front = front;
       seconds = s;
       minutes = m;
       back = back;
       digits = digits-read 2 front m is;
       below = grind (arith, nat_tests);
-      value = cc;
+      value = sym kept.1;
     }
 
 whole-read : (text : List ℕ) (time : ℕ) → whole_seconds_of text ≡ Ok time → IsWhole text time
@@ -107,8 +99,7 @@ slashes_lack (b ∷ bytes) h =
     let first : not (b == 47) ≡ true = grind (arith, nat_tests) in
     rw (first, slashes_lack bytes both.1) refl
 
-in_parts : (s a : ℕ) (clock : List ℕ)
-    → decimal s ++ codes "/" ++ decimal a ++ codes " " ++ clock
+in_parts : (s a : ℕ) (clock : List ℕ) → decimal s ++ codes "/" ++ decimal a ++ codes " " ++ clock
     ≡ decimal s ++ 47 ∷ (decimal a ++ 32 ∷ clock)
 in_parts s a clock =
     append_assoc (decimal s ++ codes "/" ++ decimal a) (codes " ") clock
@@ -144,115 +135,51 @@ pub record Multis (text : List ℕ) (x : Entered) : Type 0 where
   pub is : x ≡ entered.Multi solved attempted seconds
   pub spelled : IsMulti text solved attempted seconds
 
--- the cubes, where no more are solved than attempted
-abbrev picked : ℕ → ℕ → Bool → Result (ℕ × ℕ) ScorecardFault
-picked s a b = cond b (Ok (s, a)) (Err (fault.MoreSolved a))
-
--- what is read after the solved cubes
-abbrev rest-of : ℕ → Option (List ℕ) → Result Entered ScorecardFault
-rest-of s o = or_fault fault.NotAResult o >>= (λ rest.
-    or_fault fault.BadAttempted (number_between 2 99 (cut 32 rest).0) >>= (λ a.
-    solved_of s a >>= (λ cubes.
-    or_fault fault.NotAResult (cut 32 rest).1 >>= (λ clock.
-    whole_seconds_of clock >>= (λ time.
-    some_seconds time >>= (λ seconds.
-    Ok (entered.Multi cubes.0 cubes.1 seconds)))))))
-
 pub multi-read : (text : List ℕ) (x : Entered) → multi_of text ≡ Ok x → Multis text x
 unfolding multi_of
-multi-read text x h = first (number_between 0 99 (cut 47 text).0) refl h
-  where
-    sixth : (s a t : ℕ) (rest clock : List ℕ) → number_between 0 99 (cut 47 text).0 ≡ Some s
-        → (cut 47 text).1 ≡ Some rest → number_between 2 99 (cut 32 rest).0 ≡ Some a → s ≤ a
-        → (cut 32 rest).1 ≡ Some clock → whole_seconds_of clock ≡ Ok t → (b : Bool)
-        → nat_le 1 t ≡ b
-        → (cond b (Ok t) (Err fault.NoSeconds) >>= (λ seconds. Ok (entered.Multi s a seconds)))
-        ≡ Ok x
-        → Multis text x
-    sixth s a t rest clock front is back below end time false e r =
-        absurd (let bad : Err fault.NoSeconds ≡ Ok x = r in cc)
-    sixth s a t rest clock front is back below end time true e r =
-        let one = cubes.only (cut 47 text).0 s front in
-        let two = attempts.only (cut 32 rest).0 a back in
-        let tail : rest ≡ decimal a ++ 32 ∷ clock =
-        cut_spelled 32 rest ∙ ap (λ y. y ++ behind 32 (cut 32 rest).1) two.1
-        ∙ ap (λ y. decimal a ++ behind 32 y) end in
-        record {
-          solved = s;
-          attempted = a;
-          seconds = t;
-          is = let v : Ok (entered.Multi s a t) ≡ Ok x = r in cc;
-          spelled = record {
-            clock = clock;
-            parts = cut_spelled 47 text ∙ ap (λ y. y ++ behind 47 (cut 47 text).1) one.1
-                ∙ ap (λ y. decimal s ++ behind 47 y) is ∙ ap (λ y. decimal s ++ 47 ∷ y) tail
-                ∙ sym (in_parts s a clock);
-            form = whole-read clock t time;
-            two = two.0.0;
-            few = two.0.1;
-            all = below;
-            some = grind (arith, nat_tests);
-          };
-        }
-
-    fifth : (s a : ℕ) (rest clock : List ℕ) → number_between 0 99 (cut 47 text).0 ≡ Some s
-        → (cut 47 text).1 ≡ Some rest → number_between 2 99 (cut 32 rest).0 ≡ Some a → s ≤ a
-        → (cut 32 rest).1 ≡ Some clock → (o : Result ℕ ScorecardFault) → whole_seconds_of clock ≡ o
-        → (o >>= (λ time. some_seconds time >>= (λ seconds. Ok (entered.Multi s a seconds))))
-        ≡ Ok x
-        → Multis text x
-    fifth s a rest clock front is back below end (Err e) time r =
-        absurd (let bad : Err e ≡ Ok x = r in cc)
-    fifth s a rest clock front is back below end (Ok t) time r =
-        sixth s a t rest clock front is back below end time (nat_le 1 t) refl r
-
-    fourth : (s a : ℕ) (rest : List ℕ) → number_between 0 99 (cut 47 text).0 ≡ Some s
-        → (cut 47 text).1 ≡ Some rest → number_between 2 99 (cut 32 rest).0 ≡ Some a → s ≤ a
-        → (o : Option (List ℕ)) → (cut 32 rest).1 ≡ o
-        → (or_fault fault.NotAResult o >>= (λ clock. whole_seconds_of clock >>= (λ time.
-        some_seconds time >>= (λ seconds. Ok (entered.Multi s a seconds)))))
-        ≡ Ok x
-        → Multis text x
-    fourth s a rest front is back below None end r =
-        absurd (let bad : Err fault.NotAResult ≡ Ok x = r in cc)
-    fourth s a rest front is back below (Some clock) end r =
-        fifth s a rest clock front is back below end (whole_seconds_of clock) refl r
-
-    third : (s a : ℕ) (rest : List ℕ) → number_between 0 99 (cut 47 text).0 ≡ Some s
-        → (cut 47 text).1 ≡ Some rest → number_between 2 99 (cut 32 rest).0 ≡ Some a
-        → (b : Bool) → nat_le s a ≡ b
-        → (picked s a b >>= (λ cubes.
-        or_fault fault.NotAResult (cut 32 rest).1 >>= (λ clock. whole_seconds_of clock
-        >>= (λ time. some_seconds time
-        >>= (λ seconds. Ok (entered.Multi cubes.0 cubes.1 seconds))))))
-        ≡ Ok x
-        → Multis text x
-    third s a rest front is back false e r =
-        absurd (let bad : Err (fault.MoreSolved a) ≡ Ok x = r in cc)
-    third s a rest front is back true e r =
-        fourth s a rest front is back (grind (arith, nat_tests)) (cut 32 rest).1 refl r
-
-    next : (s : ℕ) (rest : List ℕ) → number_between 0 99 (cut 47 text).0 ≡ Some s
-        → (cut 47 text).1 ≡ Some rest → (o : Option ℕ) → number_between 2 99 (cut 32 rest).0 ≡ o
-        → (or_fault fault.BadAttempted o >>= (λ a. solved_of s a >>= (λ cubes.
-        or_fault fault.NotAResult (cut 32 rest).1 >>= (λ clock. whole_seconds_of clock
-        >>= (λ time. some_seconds time
-        >>= (λ seconds. Ok (entered.Multi cubes.0 cubes.1 seconds)))))))
-        ≡ Ok x
-        → Multis text x
-    next s rest front is None back r =
-        absurd (let bad : Err fault.BadAttempted ≡ Ok x = r in cc)
-    next s rest front is (Some a) back r =
-        third s a rest front is back (nat_le s a) refl r
-
-    second : (s : ℕ) → number_between 0 99 (cut 47 text).0 ≡ Some s → (o : Option (List ℕ))
-        → (cut 47 text).1 ≡ o → rest-of s o ≡ Ok x → Multis text x
-    second s front None is r = absurd (let bad : Err fault.NotAResult ≡ Ok x = r in cc)
-    second s front (Some rest) is r =
-        next s rest front is (number_between 2 99 (cut 32 rest).0) refl r
-
-    first : (o : Option ℕ) → number_between 0 99 (cut 47 text).0 ≡ o
-        → (or_fault fault.NotAResult o >>= (λ s. rest-of s (cut 47 text).1)) ≡ Ok x
-        → Multis text x
-    first None is r = absurd (let bad : Err fault.NotAResult ≡ Ok x = r in cc)
-    first (Some s) is r = second s is (cut 47 text).1 refl r
+multi-read text x h =
+    let s = bind_ok (or_fault fault.NotAResult (number_between 0 99 (cut 47 text).0)) _ x h in
+    let front = or_fault_ok fault.NotAResult (number_between 0 99 (cut 47 text).0) s.value s.was in
+    let r = bind_ok (or_fault fault.NotAResult (cut 47 text).1) _ x s.next in
+    let is = or_fault_ok fault.NotAResult (cut 47 text).1 r.value r.was in
+    let rest = r.value in
+    let a = bind_ok (or_fault fault.BadAttempted (number_between 2 99 (cut 32 rest).0)) _ x r.next in
+    let back =
+    or_fault_ok fault.BadAttempted (number_between 2 99 (cut 32 rest).0) a.value a.was in
+    let c = bind_ok (solved_of s.value a.value) _ x a.next in
+    let cubes_kept =
+    kept_ok (nat_le s.value a.value) (s.value, a.value) c.value (fault.MoreSolved a.value) c.was in
+    let k = bind_ok (or_fault fault.NotAResult (cut 32 rest).1) _ x c.next in
+    let end = or_fault_ok fault.NotAResult (cut 32 rest).1 k.value k.was in
+    let t = bind_ok (whole_seconds_of k.value) _ x k.next in
+    let m = bind_ok (some_seconds t.value) _ x t.next in
+    let time_kept = kept_ok (nat_le 1 t.value) t.value m.value fault.NoSeconds m.was in
+    let one = cubes.only (cut 47 text).0 s.value front in
+    let two = attempts.only (cut 32 rest).0 a.value back in
+    let tail : rest ≡ decimal a.value ++ 32 ∷ k.value =
+    cut_spelled 32 rest ∙ ap (λ y. y ++ behind 32 (cut 32 rest).1) two.1
+    ∙ ap (λ y. decimal a.value ++ behind 32 y) end in
+    let solved : s.value ≡ c.value.0 = ap (λ (p : ℕ × ℕ). p.0) cubes_kept.1 in
+    let attempted : a.value ≡ c.value.1 = ap (λ (p : ℕ × ℕ). p.1) cubes_kept.1 in
+    let seconds : t.value ≡ m.value = time_kept.1 in
+    let last : Ok (entered.Multi c.value.0 c.value.1 m.value) ≡ Ok x = m.next in
+    let below : nat_le s.value a.value ≡ true = cubes_kept.0 in
+    let least : nat_le 1 t.value ≡ true = time_kept.0 in
+    record {
+      solved = s.value;
+      attempted = a.value;
+      seconds = t.value;
+      is = cc;
+      spelled = record {
+        clock = k.value;
+        parts = cut_spelled 47 text ∙ ap (λ y. y ++ behind 47 (cut 47 text).1) one.1
+            ∙ ap (λ y. decimal s.value ++ behind 47 y) is
+            ∙ ap (λ y. decimal s.value ++ 47 ∷ y) tail
+            ∙ sym (in_parts s.value a.value k.value);
+        form = whole-read k.value t.value t.was;
+        two = two.0.0;
+        few = two.0.1;
+        all = grind (arith, nat_tests);
+        some = grind (arith, nat_tests);
+      };
+    }

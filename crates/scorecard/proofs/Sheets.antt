@@ -1,41 +1,35 @@
 -- What a sheet prints of an attempt is read back.
-use Rattle.std.proofs.Common.{◌≡◌, ℕ, ◌+◌, ◌-◌, ◌*◌, ◌/◌, ◌%◌, ◌^◌, ◌<◌, ◌≤◌, inl, inr}
-use Rattle.std.proofs.Common.{Bool, true, false, ◌||◌, ◌==◌, cond, nat_le, nat_lt, List, [], ◌∷◌}
-use Rattle.std.proofs.Common.{◌++◌, length, drop, reverse, get_or, codes, decimal, Option}
-use Rattle.std.proofs.Common.{refl, sym, ap, ◌∙◌, subst, arith, append_assoc}
+use Rattle.std.proofs.Common.{◌≡◌, ℕ, ◌+◌, ◌-◌, ◌*◌, ◌/◌, ◌%◌, ◌^◌, ◌<◌, ◌≤◌, inl, inr, Bool, true}
+use Rattle.std.proofs.Common.{false, ◌||◌, ◌==◌, cond, nat_le, nat_lt, List, [], ◌∷◌, ◌++◌, length}
+use Rattle.std.proofs.Common.{drop, reverse, get_or, codes, decimal, Option, refl, sym, ap, ◌∙◌}
+use Rattle.std.proofs.Common.{subst, arith, append_assoc}
 use Rattle.std.specs.Char.{is_ascii_digit, is_ascii_whitespace}
 use Rattle.std.specs.List.{list_all, prefix_len, suffix_len}
 use Rattle.std.proofs.lemmas.Bool.{false≢true}
-use Rattle.std.proofs.lemmas.Bool.Decides.{nat_tests}
+use Rattle.std.proofs.lemmas.{Bool.Decides.nat_tests, Fmt.digits_value-decimal}
 use Rattle.std.proofs.lemmas.Fmt.{decimal_nonempty, decimal_digit, decimal_step, length-decimal-le}
-use Rattle.std.proofs.lemmas.Fmt.{digits_value-decimal}
 use Rattle.std.proofs.lemmas.List.{append-nil, take_all, reverse-append}
-use Rattle.attempts.specs.declared.Fm.TheVariants as fm
-use Rattle.attempts.specs.declared.Outcome.{Outcome}
-use Rattle.attempts.specs.declared.Outcome.TheVariants as outcome
-use Rattle.attempts.specs.declared.Unit.{Unit as Measure}
+use Rattle.attempts.specs.declared.{Outcome.Outcome, Unit.Unit as Measure}
 use Rattle.attempts.specs.declared.Unit.TheVariants.{Time, Moves, Multi}
-use Rattle.attempts.specs.declared.Value.TheVariants as value
 use Rattle.attempts.specs.Attempts.{rounded, reaches, value_of, IsOutcome, points, unsolved}
 use Rattle.attempts.specs.Attempts.{is_multi_finished, multi_number}
-use Rattle.attempts.specs.Texts.{two_digits, time_text, clock_text, multi_text}
-use Rattle.attempts.specs.Texts.{unsolved_in, solved_in, attempted_in, seconds_in}
+use Rattle.attempts.specs.Texts.{two_digits, time_text, clock_text, multi_text, unsolved_in}
+use Rattle.attempts.specs.Texts.{solved_in, attempted_in, seconds_in}
 use Rattle.formats.specs.Events.{unit_of}
 use Rattle.cube.specs.declared.moves.Move.{Move}
-use Rattle.texts.proofs.Cuts.{and-true}
-use Rattle.texts.proofs.Numerals.{own}
-use Rattle.texts.proofs.FieldSpellings.{decimal_digits}
+use Rattle.texts.proofs.{Cuts.and-true, Numerals.own, FieldSpellings.decimal_digits}
 use Rattle.texts.specs.declared.command.Entered.{Entered}
-use Rattle.texts.specs.declared.command.Entered.TheVariants as entered
-use Rattle.scorecard.specs.Spelling.{AreDigits, EndsInPair, points as marks, colons}
-use Rattle.scorecard.specs.Spelling.{IsTime, IsMulti}
-use Rattle.scorecard.specs.Spelling.{without_front, without_end, trimmed, is_among, Spells}
+use Rattle.scorecard.specs.Spelling.{AreDigits, EndsInPair, points as marks, colons, IsTime}
+use Rattle.scorecard.specs.Spelling.{IsMulti, without_front, without_end, trimmed, is_among, Spells}
 use Rattle.scorecard.specs.Spelling.{SpellsBare, IsSolution, mended}
-use Rattle.scorecard.specs.Laws.{IsOutcomeIn, IsReadable, IsReadBack, SheetReadsBack}
-use Rattle.scorecard.specs.Laws.{SpellsNoMoves}
-use Rattle.scorecard.proofs.Begins.{BeginsWithDigit, decimal_begins, multi_begins}
-use Rattle.scorecard.proofs.Begins.{begins_pair, no_dnf, no_dns}
+use Rattle.scorecard.specs.Laws.{IsOutcomeIn, IsReadable, IsReadBack, SheetReadsBack, SpellsNoMoves}
+use Rattle.scorecard.proofs.Begins.{BeginsWithDigit, decimal_begins, multi_begins, begins_pair}
+use Rattle.scorecard.proofs.Begins.{no_dnf, no_dns}
 use Rattle.scorecard.proofs.Starts.{is_start, moves-start, mended_first}
+use Rattle.attempts.specs.declared.Fm.TheVariants as fm
+use Rattle.attempts.specs.declared.Outcome.TheVariants as outcome
+use Rattle.attempts.specs.declared.Value.TheVariants as value
+use Rattle.texts.specs.declared.command.Entered.TheVariants as entered
 
 -- ---- a text with no white space around stays as it is
 
@@ -70,8 +64,7 @@ trimmed_same text h =
 digit_black : (b : ℕ) → is_ascii_digit b ≡ true → is_ascii_whitespace b ≡ false
 digit_black b h = grind (arith, nat_tests)
 
-first_black : (text : List ℕ) → BeginsWithDigit text
-    → is_ascii_whitespace (get_or text 0 0) ≡ false
+first_black : (text : List ℕ) → BeginsWithDigit text → is_ascii_whitespace (get_or text 0 0) ≡ false
 first_black [] h = absurd h
 first_black (b ∷ bs) h = digit_black b h
 
@@ -131,8 +124,7 @@ short_text : (n : ℕ) → n < 6000
 short_text n small =
     let test : nat_lt n 6000 ≡ true = grind (arith, nat_tests) in rw test refl
 
-long_text : (n : ℕ) → 6000 ≤ n
-    → time_text n
+long_text : (n : ℕ) → 6000 ≤ n → time_text n
     ≡ decimal (n / 6000) ++ codes ":" ++ two_digits (n / 100 % 60) ++ codes "."
     ++ two_digits (n % 100)
 long_text n long =
@@ -213,8 +205,7 @@ time_read : (n : ℕ) → 1 ≤ n → n ≤ 999999 → Spells Time (time_text n)
 time_read n some most =
     let spelled = time_spelled n some most in
     subst (λ (t : List ℕ). SpellsBare Time t (entered.Time n 0))
-    (sym (trimmed_same (time_text n) spelled.0))
-    (record {
+    (sym (trimmed_same (time_text n) spelled.0)) (record {
       front = time_text n;
       mark = [];
       parts = sym (append-nil (time_text n));
@@ -235,8 +226,7 @@ rounded_again v = step (nat_le v 60000) refl
         → rounded (cond b v ((v + 50) / 100 * 100)) ≡ cond b v ((v + 50) / 100 * 100)
     step true e = rw e refl
     step false e =
-        long ((v + 50) / 100 * 100) ((v + 50) / 100) refl
-        (nat_le ((v + 50) / 100 * 100) 60000) refl
+        long ((v + 50) / 100 * 100) ((v + 50) / 100) refl (nat_le ((v + 50) / 100 * 100) 60000) refl
 
 rounded_some : (v : ℕ) → 1 ≤ v → 1 ≤ rounded v
 rounded_some v some = step (nat_le v 60000) refl
@@ -250,14 +240,12 @@ rounded_some v some = step (nat_le v 60000) refl
 dnf_read : (unit : Measure) → IsReadBack unit value.Dnf
 unfolding trimmed
 dnf_read Time = (entered.Dnf, refl, refl)
-dnf_read Moves = (entered.Dnf, refl, refl)
-dnf_read Multi = (entered.Dnf, refl, refl)
+dnf_read _ = (entered.Dnf, refl, refl)
 
 dns_read : (unit : Measure) → IsReadBack unit value.Dns
 unfolding trimmed
 dns_read Time = (entered.Dns, refl, refl)
-dns_read Moves = (entered.Dns, refl, refl)
-dns_read Multi = (entered.Dns, refl, refl)
+dns_read _ = (entered.Dns, refl, refl)
 
 -- ---- results of multi-blind
 
@@ -298,8 +286,7 @@ multi_ends s a t begins =
       front = cubes_text s a ++ (decimal (t / 60) ++ pair.mark ∷ pair.tens ∷ []);
       last = pair.ones;
       parts =
-          ap (λ y. cubes_text s a ++ y)
-          (pair.parts
+          ap (λ y. cubes_text s a ++ y) (pair.parts
           ∙ sym (append_assoc (decimal (t / 60)) (pair.mark ∷ pair.tens ∷ []) (pair.ones ∷ [])))
           ∙ sym (append_assoc (cubes_text s a) (decimal (t / 60) ++ pair.mark ∷ pair.tens ∷ [])
           (pair.ones ∷ []));
@@ -308,8 +295,7 @@ multi_ends s a t begins =
 
 multi_same : (s a t : ℕ) → 2 ≤ s → unsolved s a ≤ s → s ≤ a → a ≤ 99 → t ≤ 5999
     → multi_text (solved_in (multi_number s a t)) (attempted_in (multi_number s a t))
-    (seconds_in (multi_number s a t))
-    ≡ multi_text s a t
+    (seconds_in (multi_number s a t)) ≡ multi_text s a t
 multi_same s a t two enough all few most =
     let n : ℕ = multi_number s a t in
     let above : multi_number s a t / 10000000 ≡ 99 - points s a = omega arith in
@@ -344,8 +330,7 @@ back : (unit : Measure) (limit : Option ℕ) (x : Outcome) → IsOutcome x → I
     → IsReadable unit (value_of limit x) → IsReadBack unit (value_of limit x)
 back Time limit (outcome.Time t p) valid fits readable = go (reaches limit t) readable
   where
-    go : (b : Bool)
-        → IsReadable Time (cond b value.Dnf (value.Number (rounded (t + 200 * p))))
+    go : (b : Bool) → IsReadable Time (cond b value.Dnf (value.Number (rounded (t + 200 * p))))
         → IsReadBack Time (cond b value.Dnf (value.Number (rounded (t + 200 * p))))
     go true r = dnf_read Time
     go false r = (
@@ -365,12 +350,7 @@ back Multi limit (outcome.Multi s a t) valid fits readable = go (is_multi_finish
     go false is = dnf_read Multi
 back unit limit outcome.Dnf valid fits readable = dnf_read unit
 back unit limit outcome.Dns valid fits readable = dns_read unit
-back Time limit (outcome.Solution r) valid fits readable = absurd fits
-back Time limit (outcome.Multi s a t) valid fits readable = absurd fits
-back Moves limit (outcome.Time t p) valid fits readable = absurd fits
-back Moves limit (outcome.Multi s a t) valid fits readable = absurd fits
-back Multi limit (outcome.Time t p) valid fits readable = absurd fits
-back Multi limit (outcome.Solution r) valid fits readable = absurd fits
+back _ limit _ valid fits readable = absurd fits
 
 pub sheet_back : SheetReadsBack
 sheet_back event limit x valid fits readable = back (unit_of event) limit x valid fits readable
@@ -388,8 +368,7 @@ digit_alone b rest digit start =
     (ap is_start (sym (mended_first b rest plain)) ∙ start) in
     false≢true (sym none ∙ both.0)
 
-no_solution : (text : List ℕ) (moves : List Move) → BeginsWithDigit text
-    → IsSolution text moves → ⊥
+no_solution : (text : List ℕ) (moves : List Move) → BeginsWithDigit text → IsSolution text moves → ⊥
 no_solution [] moves begins h = begins
 no_solution (b ∷ bs) moves begins h =
     digit_alone b bs begins (moves-start (mended (b ∷ bs)) moves h.tokens)

@@ -2,24 +2,16 @@
 use Rattle.std.proofs.Common.{◌≡◌, ℕ, zero, suc, ◌<◌, ◌≤◌, Bool, true, false, ◌&&◌, ◌||◌, ◌==◌}
 use Rattle.std.proofs.Common.{List, [], ◌∷◌, ◌++◌, length, map, get_or, codes, bytes_eq, replicate}
 use Rattle.std.proofs.Common.{refl, sym, ap, ◌∙◌, arith}
-use Rattle.std.specs.Char.{to_ascii_lowercase}
+use Rattle.std.{specs.Char.to_ascii_lowercase, proofs.lemmas.Bool.Decides.nat_tests}
 use Rattle.std.proofs.lemmas.Bool.{false≢true}
-use Rattle.std.proofs.lemmas.Bool.Decides.{nat_tests}
-use Rattle.cube.specs.declared.moves.Side.TheVariants.{U, R, F, D, L, B}
-use Rattle.cube.specs.declared.moves.Axis.TheVariants.{X, Y, Z}
-use Rattle.cube.specs.declared.moves.Kind.{Kind}
+use Rattle.cube.specs.declared.moves.{Side.TheVariants.U, Axis.TheVariants.X}
+use Rattle.cube.specs.declared.moves.{Kind.Kind, Quarter.Quarter, Move.Move}
 use Rattle.cube.specs.declared.moves.Kind.TheVariants.{Face, Block, Turn}
-use Rattle.cube.specs.declared.moves.Quarter.{Quarter}
 use Rattle.cube.specs.declared.moves.Quarter.TheVariants.{Clockwise, Half, Anticlockwise}
-use Rattle.cube.specs.declared.moves.Move.{Move}
-use Rattle.cube.specs.notation.Notation.{Spells}
-use Rattle.cube.specs.notation.Tokens.{token}
-use Rattle.texts.specs.Fields.{move_by}
+use Rattle.cube.specs.notation.{Notation.Spells, Tokens.token}
+use Rattle.texts.{specs.Fields.move_by, proofs.Cuts.and-true, proofs.Spelled.bytes_eq-equal}
 use Rattle.attempts.specs.declared.Unit.TheVariants.{Moves}
-use Rattle.texts.proofs.Cuts.{and-true}
-use Rattle.texts.proofs.Spelled.{bytes_eq-equal}
-use Rattle.scorecard.specs.Spelling.{is_among, mended, is_dnf}
-use Rattle.scorecard.specs.Spelling.{is_dns, IsSolution}
+use Rattle.scorecard.specs.Spelling.{is_among, mended, is_dnf, is_dns, IsSolution}
 
 -- what may be second in moves: nothing, a space, `w`, an apostrophe or `2`
 abbrev pub is_start : List ℕ → Bool
@@ -43,47 +35,14 @@ token-start : (more : List ℕ) (kind : Kind) (quarter : Quarter)
 token-start more (Face U) =
     by_quarter more (Face U) (record { alone = refl; led = refl })
     (record { alone = refl; led = refl }) (record { alone = refl; led = refl })
-token-start more (Face R) =
-    by_quarter more (Face R) (record { alone = refl; led = refl })
-    (record { alone = refl; led = refl }) (record { alone = refl; led = refl })
-token-start more (Face F) =
-    by_quarter more (Face F) (record { alone = refl; led = refl })
-    (record { alone = refl; led = refl }) (record { alone = refl; led = refl })
-token-start more (Face D) =
-    by_quarter more (Face D) (record { alone = refl; led = refl })
-    (record { alone = refl; led = refl }) (record { alone = refl; led = refl })
-token-start more (Face L) =
-    by_quarter more (Face L) (record { alone = refl; led = refl })
-    (record { alone = refl; led = refl }) (record { alone = refl; led = refl })
-token-start more (Face B) =
-    by_quarter more (Face B) (record { alone = refl; led = refl })
-    (record { alone = refl; led = refl }) (record { alone = refl; led = refl })
 token-start more (Block U) =
     by_quarter more (Block U) (record { alone = refl; led = refl })
-    (record { alone = refl; led = refl }) (record { alone = refl; led = refl })
-token-start more (Block R) =
-    by_quarter more (Block R) (record { alone = refl; led = refl })
-    (record { alone = refl; led = refl }) (record { alone = refl; led = refl })
-token-start more (Block F) =
-    by_quarter more (Block F) (record { alone = refl; led = refl })
-    (record { alone = refl; led = refl }) (record { alone = refl; led = refl })
-token-start more (Block D) =
-    by_quarter more (Block D) (record { alone = refl; led = refl })
-    (record { alone = refl; led = refl }) (record { alone = refl; led = refl })
-token-start more (Block L) =
-    by_quarter more (Block L) (record { alone = refl; led = refl })
-    (record { alone = refl; led = refl }) (record { alone = refl; led = refl })
-token-start more (Block B) =
-    by_quarter more (Block B) (record { alone = refl; led = refl })
     (record { alone = refl; led = refl }) (record { alone = refl; led = refl })
 token-start more (Turn X) =
     by_quarter more (Turn X) (record { alone = refl; led = refl })
     (record { alone = refl; led = refl }) (record { alone = refl; led = refl })
-token-start more (Turn Y) =
-    by_quarter more (Turn Y) (record { alone = refl; led = refl })
-    (record { alone = refl; led = refl }) (record { alone = refl; led = refl })
-token-start more (Turn Z) =
-    by_quarter more (Turn Z) (record { alone = refl; led = refl })
+token-start more kind =
+    by_quarter more kind (record { alone = refl; led = refl })
     (record { alone = refl; led = refl }) (record { alone = refl; led = refl })
 
 led_by_spaces : (n : ℕ) (gap rest : List ℕ) (move : Move) → 0 < n → gap ≡ replicate n 32
@@ -93,8 +52,7 @@ led_by_spaces (suc n) gap rest move some is =
     ap (λ g. is_start (token move ++ (g ++ rest))) is
     ∙ (token-start (replicate n 32 ++ rest) move.kind move.quarter).led
 
-pub moves-start : (text : List ℕ) (moves : List Move) → Spells text moves
-    → is_start text ≡ true
+pub moves-start : (text : List ℕ) (moves : List Move) → Spells text moves → is_start text ≡ true
 moves-start text [] h = absurd h
 moves-start text (move ∷ []) h =
     ap is_start h ∙ (token-start [] move.kind move.quarter).alone
@@ -148,35 +106,33 @@ not_sign (x ∷ rest) word is low high start =
     (ap is_start (sym plain) ∙ start) in
     false≢true (sym none ∙ both.0)
 
-pub solution_no_dnf : (text : List ℕ) (moves : List Move) → IsSolution text moves
-    → is_dnf Moves text ≡ false
-solution_no_dnf text moves h =
-    go (bytes_eq (map to_ascii_lowercase text) (codes "dnf"))
-    (bytes_eq (map to_ascii_lowercase text) (codes "/")) refl refl
+-- a solution is none of two words, one of which begins with these letters and one with a sign
+no_word : (letters sign text : List ℕ) (moves : List Move) → get_or letters 0 0 ≡ 100
+    → get_or letters 1 0 ≡ 110 → 42 ≤ get_or sign 0 0 → get_or sign 0 0 ≤ 47 → IsSolution text moves
+    → (bytes_eq (map to_ascii_lowercase text) letters
+    || (bytes_eq (map to_ascii_lowercase text) sign || false)) ≡ false
+no_word letters sign text moves d n low high h =
+    go (bytes_eq (map to_ascii_lowercase text) letters)
+    (bytes_eq (map to_ascii_lowercase text) sign) refl refl
   where
     start : is_start (mended text) ≡ true
     start = moves-start (mended text) moves h.tokens
 
-    go : (a b : Bool) → bytes_eq (map to_ascii_lowercase text) (codes "dnf") ≡ a
-        → bytes_eq (map to_ascii_lowercase text) (codes "/") ≡ b → (a || (b || false)) ≡ false
-    go true b e f = absurd (not_letters text (codes "dnf") e refl refl start)
-    go false true e f = absurd (not_sign text (codes "/") f (omega arith) (omega arith) start)
+    go : (a b : Bool) → bytes_eq (map to_ascii_lowercase text) letters ≡ a
+        → bytes_eq (map to_ascii_lowercase text) sign ≡ b → (a || (b || false)) ≡ false
+    go true b e f = absurd (not_letters text letters e d n start)
+    go false true e f = absurd (not_sign text sign f low high start)
     go false false e f = refl
+
+pub solution_no_dnf : (text : List ℕ) (moves : List Move) → IsSolution text moves
+    → is_dnf Moves text ≡ false
+solution_no_dnf text moves h =
+    no_word (codes "dnf") (codes "/") text moves refl refl (omega arith) (omega arith) h
 
 pub solution_no_dns : (text : List ℕ) (moves : List Move) → IsSolution text moves
     → is_dns Moves text ≡ false
 solution_no_dns text moves h =
-    go (bytes_eq (map to_ascii_lowercase text) (codes "dns"))
-    (bytes_eq (map to_ascii_lowercase text) (codes "*")) refl refl
-  where
-    start : is_start (mended text) ≡ true
-    start = moves-start (mended text) moves h.tokens
-
-    go : (a b : Bool) → bytes_eq (map to_ascii_lowercase text) (codes "dns") ≡ a
-        → bytes_eq (map to_ascii_lowercase text) (codes "*") ≡ b → (a || (b || false)) ≡ false
-    go true b e f = absurd (not_letters text (codes "dns") e refl refl start)
-    go false true e f = absurd (not_sign text (codes "*") f (omega arith) (omega arith) start)
-    go false false e f = refl
+    no_word (codes "dns") (codes "*") text moves refl refl (omega arith) (omega arith) h
 
 -- a solution is not empty
 pub solution_some : (text : List ℕ) (moves : List Move) → IsSolution text moves

@@ -1,28 +1,24 @@
 -- Times: what is read is what is spelled.
-use Rattle.std.proofs.Common.{◌≡◌, ◌⊎◌, inl, inr, ℕ, ◌+◌, ◌*◌, ◌/◌, ◌%◌, ◌≤◌, Bool, true}
-use Rattle.std.proofs.Common.{false, ◌&&◌, ◌||◌, cond, nat_le, List, [], ◌∷◌, ◌++◌, codes}
-use Rattle.std.proofs.Common.{bytes_eq, Option, Some, None, Result, Ok, Err, refl, sym, ap, ◌∙◌}
-use Rattle.std.proofs.Common.{arith, not, ◌==◌, ◌<◌, eqb-true, decimal, length}
-use Rattle.std.specs.Char.{is_ascii_digit}
-use Rattle.std.specs.List.{list_all}
+use Rattle.std.proofs.Common.{◌≡◌, ◌⊎◌, inl, inr, ℕ, ◌+◌, ◌*◌, ◌/◌, ◌%◌, ◌≤◌, Bool, true, false}
+use Rattle.std.proofs.Common.{◌&&◌, ◌||◌, cond, nat_le, List, [], ◌∷◌, ◌++◌, codes, bytes_eq}
+use Rattle.std.proofs.Common.{Option, Some, None, Ok, Err, refl, sym, ap, ◌∙◌, arith, not}
+use Rattle.std.proofs.Common.{◌==◌, ◌<◌, eqb-true, decimal, length}
+use Rattle.std.{specs.Char.is_ascii_digit, specs.List.list_all, proofs.lemmas.Fmt.decimal_nonempty}
 use Rattle.std.proofs.lemmas.Bool.{false≢true}
-use Rattle.std.proofs.lemmas.Bool.Decides.{nat_tests}
-use Rattle.std.proofs.lemmas.Fmt.{decimal_nonempty}
-use Rattle.std.proofs.lemmas.List.Folds.{list_all-append}
+use Rattle.std.proofs.lemmas.{Bool.Decides.nat_tests, List.Folds.list_all-append}
 use Rattle.texts.proofs.Cuts.{and-true, lacks, behind, cut_spelled, cut-behind}
-use Rattle.texts.proofs.Spelled.{bytes_eq-equal}
+use Rattle.texts.{proofs.Spelled.bytes_eq-equal, specs.declared.command.Entered.Entered}
 use Rattle.texts.specs.Fields.{cut, number_between}
 use Rattle.texts.proofs.FieldSpellings.{decimal_digits, number_spelled}
-use Rattle.texts.specs.declared.command.Entered.{Entered}
-use Rattle.texts.specs.declared.command.Entered.TheVariants as entered
-use Rattle.scorecard.specs.declared.fault.ScorecardFault.{ScorecardFault}
-use Rattle.scorecard.specs.declared.fault.ScorecardFault.TheVariants as fault
-use Rattle.scorecard.specs.Spelling.{EndsInPair, is_among, points, colons, IsFilled}
-use Rattle.scorecard.specs.Spelling.{IsSeconds, IsMinutes, IsTime, IsPenalty, IsTimed}
+use Rattle.scorecard.specs.Spelling.{EndsInPair, is_among, points, colons, IsFilled, IsSeconds}
+use Rattle.scorecard.specs.Spelling.{IsMinutes, IsTime, IsPenalty, IsTimed}
 use Rattle.scorecard.specs.Reading.{number_of, pair_of, filled, seconds_with, minutes_with}
 use Rattle.scorecard.specs.Reading.{before_point, clock_with, clock_of, within_limits, time_of}
-use Rattle.scorecard.specs.Reading.{halved, penalties_of, timed_of, ◌>>=◌}
+use Rattle.scorecard.specs.Reading.{halved, penalties_of, timed_of}
 use Rattle.scorecard.proofs.DigitTexts.{digits-read, digits-found, pair-read, pair-found, pair-none}
+use Rattle.texts.specs.declared.command.Entered.TheVariants as entered
+use Rattle.scorecard.specs.declared.fault.ScorecardFault.TheVariants as fault
+use Rattle.scorecard.proofs.DigitTexts.{bind_ok, kept_ok, spared_ok}
 
 abbrev IsClock : List ℕ → ℕ → Type 0
 IsClock text time = IsFilled text time ⊎ (IsSeconds text time ⊎ IsMinutes text time)
@@ -33,17 +29,16 @@ filled-read : (text : List ℕ) (time : ℕ) (o : Option ℕ) → number_of 7 te
     → filled o ≡ Ok time → IsFilled text time
 filled-read text time None is h =
     absurd (let bad : Err fault.NotATime ≡ Ok time = h in cc)
-filled-read text time (Some n) is h = step (nat_le 10000 n && nat_le 6000 (n % 10000)) refl h
-  where
-    step : (b : Bool) → (nat_le 10000 n && nat_le 6000 (n % 10000)) ≡ b
-        → cond b (Err fault.BadSeconds) (Ok (6000 * (n / 10000) + n % 10000)) ≡ Ok time
-        → IsFilled text time
-    step true e r = absurd (let bad : Err fault.BadSeconds ≡ Ok time = r in cc)
-    step false e r = record {
+filled-read text time (Some n) is h =
+    let kept =
+    spared_ok (nat_le 10000 n && nat_le 6000 (n % 10000)) (6000 * (n / 10000) + n % 10000) time
+    fault.BadSeconds h in
+    let few : (nat_le 10000 n && nat_le 6000 (n % 10000)) ≡ false = kept.0 in
+    record {
       number = n;
       digits = digits-read 7 text n is;
       seconds = λ many. grind (arith, nat_tests);
-      value = cc;
+      value = sym kept.1;
     }
 
 seconds-read : (text front : List ℕ) (time c : ℕ) → EndsInPair points text front c
@@ -64,13 +59,10 @@ minutes-read : (text middle front : List ℕ) (time c s : ℕ) → EndsInPair po
     → minutes_with c s o ≡ Ok time → IsMinutes text time
 minutes-read text middle front time c s back between None is h =
     absurd (let bad : Err fault.NotATime ≡ Ok time = h in cc)
-minutes-read text middle front time c s back between (Some m) is h = step (nat_le 60 s) refl h
-  where
-    step : (b : Bool) → nat_le 60 s ≡ b
-        → cond b (Err fault.BadSeconds) (Ok (6000 * m + 100 * s + c)) ≡ Ok time
-        → IsMinutes text time
-    step true e r = absurd (let bad : Err fault.BadSeconds ≡ Ok time = r in cc)
-    step false e r = record {
+minutes-read text middle front time c s back between (Some m) is h =
+    let kept = spared_ok (nat_le 60 s) (6000 * m + 100 * s + c) time fault.BadSeconds h in
+    let few : nat_le 60 s ≡ false = kept.0 in
+    record {
       front = front;
       middle = middle;
       hundredths = c;
@@ -80,7 +72,7 @@ minutes-read text middle front time c s back between (Some m) is h = step (nat_l
       between = between;
       digits = digits-read 3 front m is;
       below = grind (arith, nat_tests);
-      value = cc;
+      value = sym kept.1;
     }
 
 clock-read : (text : List ℕ) (time : ℕ) → clock_of text ≡ Ok time → IsClock text time
@@ -130,25 +122,19 @@ clock-found text time (inr (inr f)) =
 
 pub time-read : (text : List ℕ) (time : ℕ) → time_of text ≡ Ok time → IsTime text time
 unfolding time_of
-time-read text time h = start (clock_of text) refl h
-  where
-    step : (t : ℕ) → clock_of text ≡ Ok t → (b : Bool) → (nat_le 1 t && nat_le t 999999) ≡ b
-        → cond b (Ok t) (Err fault.OutOfRange) ≡ Ok time → IsTime text time
-    step t is false e r = absurd (let bad : Err fault.OutOfRange ≡ Ok time = r in cc)
-    step t is true e r =
-        let same : t ≡ time = cc in
-        let some : 1 ≤ t = grind (arith, nat_tests) in
-        let most : t ≤ 999999 = grind (arith, nat_tests) in
-        record {
-          form = clock-read text time (is ∙ ap Ok same);
-          some = omega arith;
-          most = omega arith;
-        }
-
-    start : (o : Result ℕ ScorecardFault) → clock_of text ≡ o → (o >>= within_limits) ≡ Ok time
-        → IsTime text time
-    start (Err e) is r = absurd (let bad : Err e ≡ Ok time = r in cc)
-    start (Ok t) is r = step t is (nat_le 1 t && nat_le t 999999) refl r
+time-read text time h =
+    let t = bind_ok (clock_of text) within_limits time h in
+    let kept =
+    kept_ok (nat_le 1 t.value && nat_le t.value 999999) t.value time fault.OutOfRange t.next in
+    let same : t.value ≡ time = kept.1 in
+    let within : (nat_le 1 t.value && nat_le t.value 999999) ≡ true = kept.0 in
+    let some : 1 ≤ t.value = grind (arith, nat_tests) in
+    let most : t.value ≤ 999999 = grind (arith, nat_tests) in
+    record {
+      form = clock-read text time (t.was ∙ ap Ok same);
+      some = omega arith;
+      most = omega arith;
+    }
 
 pub time-found : (text : List ℕ) (time : ℕ) → IsTime text time → time_of text ≡ Ok time
 unfolding time_of
@@ -292,8 +278,7 @@ pair_lacks marks text front n none ends before =
 time_lacks : (text : List ℕ) (time : ℕ) → IsClock text time → lacks 43 text ≡ true
 time_lacks text time (inl f) = digits_lack text f.digits.decimal
 time_lacks text time (inr (inl f)) =
-    pair_lacks points text f.front f.hundredths refl f.back
-    (digits_lack f.front f.digits.decimal)
+    pair_lacks points text f.front f.hundredths refl f.back (digits_lack f.front f.digits.decimal)
 time_lacks text time (inr (inr f)) =
     pair_lacks points text f.middle f.hundredths refl f.back
     (pair_lacks colons f.middle f.front f.seconds refl f.between
@@ -317,26 +302,19 @@ pub record Timed (text : List ℕ) (x : Entered) : Type 0 where
 
 pub timed-read : (text : List ℕ) (x : Entered) → timed_of text ≡ Ok x → Timed text x
 unfolding timed_of
-timed-read text x h = start (penalties_of (cut 43 text).1) refl h
-  where
-    next : (p : ℕ) → penalties_of (cut 43 text).1 ≡ Ok p → (o : Result ℕ ScorecardFault)
-        → time_of (cut 43 text).0 ≡ o → (o >>= (λ t. Ok (entered.Time t p))) ≡ Ok x → Timed text x
-    next p marks (Err e) is r = absurd (let bad : Err e ≡ Ok x = r in cc)
-    next p marks (Ok t) is r = record {
-      time = t;
-      penalties = p;
-      is = let v : Ok (entered.Time t p) ≡ Ok x = r in cc;
+timed-read text x h =
+    let p = bind_ok (penalties_of (cut 43 text).1) _ x h in
+    let t = bind_ok (time_of (cut 43 text).0) _ x p.next in
+    let last : Ok (entered.Time t.value p.value) ≡ Ok x = t.next in
+    record {
+      time = t.value;
+      penalties = p.value;
+      is = cc;
       spelled = record {
         front = (cut 43 text).0;
         mark = behind 43 (cut 43 text).1;
         parts = cut_spelled 43 text;
-        timed = time-read (cut 43 text).0 t is;
-        marked = penalties-read (cut 43 text).1 p marks;
+        timed = time-read (cut 43 text).0 t.value t.was;
+        marked = penalties-read (cut 43 text).1 p.value p.was;
       };
     }
-
-    start : (o : Result ℕ ScorecardFault) → penalties_of (cut 43 text).1 ≡ o
-        → (o >>= (λ p. time_of (cut 43 text).0 >>= (λ t. Ok (entered.Time t p)))) ≡ Ok x
-        → Timed text x
-    start (Err e) is r = absurd (let bad : Err e ≡ Ok x = r in cc)
-    start (Ok p) is r = next p is (time_of (cut 43 text).0) refl r

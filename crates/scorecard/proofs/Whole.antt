@@ -1,52 +1,39 @@
 -- What is read of a field is what it spells.
-use Rattle.std.proofs.Common.{◌^◌, ◌<◌, ◌≤◌, nat_le, IfOk}
-use Rattle.std.proofs.lemmas.Str.Parse.{digits_value_short}
-use Rattle.cube.specs.notation.Notation.{Spells as SpellsMoves}
-use Rattle.texts.proofs.Numerals.{own}
-use Rattle.texts.specs.Spelling.{IsEntered}
-use Rattle.scorecard.specs.Spelling.{AreDigits, IsPenalty, IsFilledSeconds, IsMinutesSeconds}
-use Rattle.std.proofs.Common.{◌≡◌, ◌⊎◌, inl, inr, ℕ, Bool, true, false, ◌==◌, List, [], ◌∷◌, length}
-use Rattle.std.proofs.Common.{◌||◌, map, codes, bytes_eq}
-use Rattle.std.specs.Char.{to_ascii_lowercase}
-use Rattle.std.specs.List.{list_any}
-use Rattle.texts.proofs.Spelled.{bytes_eq-equal}
-use Rattle.std.proofs.Common.{Result, Ok, Err, refl, sym, ap, ◌∙◌, subst, arith}
-use Rattle.std.specs.Bool.{MatchBool}
+use Rattle.std.proofs.Common.{◌^◌, ◌<◌, ◌≤◌, nat_le, IfOk, ◌≡◌, ◌⊎◌, inl, inr, ℕ, Bool, true, false}
+use Rattle.std.proofs.Common.{◌==◌, List, [], ◌∷◌, length, ◌||◌, map, codes, bytes_eq, Result, Ok}
+use Rattle.std.proofs.Common.{Err, refl, sym, ap, ◌∙◌, subst, arith}
+use Rattle.std.proofs.lemmas.{Str.Parse.digits_value_short, Bool.Decides.nat_tests}
+use Rattle.cube.specs.{notation.Notation.Spells as SpellsMoves, declared.moves.Move.Move}
+use Rattle.texts.proofs.{Numerals.own, Spelled.bytes_eq-equal}
+use Rattle.texts.specs.{Spelling.IsEntered, declared.command.Entered.Entered}
+use Rattle.scorecard.specs.Spelling.{AreDigits, IsPenalty, Spells, is_dnf, is_dns, mended, trimmed}
+use Rattle.scorecard.specs.Spelling.{IsFilledSeconds, IsMinutesSeconds, SpellsBare, IsSolution}
+use Rattle.std.specs.{Char.to_ascii_lowercase, List.list_any, Bool.MatchBool}
 use Rattle.std.proofs.lemmas.Bool.{false≢true}
-use Rattle.std.proofs.lemmas.Bool.Decides.{nat_tests}
-use Rattle.cube.specs.declared.moves.Move.{Move}
 use Rattle.attempts.specs.declared.Unit.{Unit as Measure}
 use Rattle.attempts.specs.declared.Unit.TheVariants.{Time, Moves, Multi}
 use Rattle.cube.proofs.notation.Scanning.{spells_once}
-use Rattle.texts.specs.declared.command.Entered.{Entered}
-use Rattle.texts.specs.declared.command.Entered.TheVariants as entered
-use Rattle.scorecard.specs.declared.fault.ScorecardFault.{ScorecardFault}
-use Rattle.scorecard.specs.declared.fault.ScorecardFault.TheVariants as fault
-use Rattle.scorecard.specs.Laws.{SpellsOnce}
-use Rattle.scorecard.specs.Spelling.{Spells, SpellsBare, IsSolution, is_dnf, is_dns, mended}
-use Rattle.scorecard.specs.Spelling.{trimmed}
+use Rattle.scorecard.specs.{declared.fault.ScorecardFault.ScorecardFault, Laws.SpellsOnce}
 use Rattle.scorecard.specs.Reading.{ReadsSolution, ReadsResult, ReadsBare, Reads, IsReadAs}
 use Rattle.scorecard.proofs.TimeTexts.{timed-read, timed-found}
 use Rattle.scorecard.proofs.MultiTexts.{multi-read, multi-found}
 use Rattle.scorecard.proofs.Begins.{BeginsWithDigit, timed_begins, multi_begins, no_dnf, no_dns}
 use Rattle.scorecard.proofs.Starts.{solution_no_dnf, solution_no_dns, solution_some}
+use Rattle.texts.specs.declared.command.Entered.TheVariants as entered
+use Rattle.scorecard.specs.declared.fault.ScorecardFault.TheVariants as fault
 
 -- what is read, by the three tests
 abbrev Branches : Measure → List ℕ → Result Entered ScorecardFault → Bool → Bool → Bool → Type 0
 Branches unit text r empty dnf dns =
-    MatchBool empty (r ≡ Err fault.Empty)
-    (MatchBool dnf (r ≡ Ok entered.Dnf)
+    MatchBool empty (r ≡ Err fault.Empty) (MatchBool dnf (r ≡ Ok entered.Dnf)
     (MatchBool dns (r ≡ Ok entered.Dns) (ReadsResult unit text r)))
 
 -- ---- what is read is spelled
 
 solution-spelled : (text : List ℕ) (x : Entered) → ReadsSolution text (Ok x)
     → SpellsBare Moves text x
-solution-spelled text (entered.Time t p) h = absurd h
 solution-spelled text (entered.Solution moves) h = h
-solution-spelled text (entered.Multi s a t) h = absurd h
-solution-spelled text entered.Dnf h = absurd h
-solution-spelled text entered.Dns h = absurd h
+solution-spelled text _ h = absurd h
 
 result-spelled : (unit : Measure) (text : List ℕ) (x : Entered) → ReadsResult unit text (Ok x)
     → SpellsBare unit text x
@@ -61,26 +48,22 @@ result-spelled Multi text x h =
 pub dnf-spelled : (unit : Measure) (text : List ℕ) → is_dnf unit text ≡ true
     → SpellsBare unit text entered.Dnf
 dnf-spelled Time text h = h
-dnf-spelled Moves text h = h
-dnf-spelled Multi text h = h
+dnf-spelled _ text h = h
 
 pub dns-spelled : (unit : Measure) (text : List ℕ) → is_dns unit text ≡ true
     → SpellsBare unit text entered.Dns
 dns-spelled Time text h = h
-dns-spelled Moves text h = h
-dns-spelled Multi text h = h
+dns-spelled _ text h = h
 
 dnf-is : (unit : Measure) (text : List ℕ) → SpellsBare unit text entered.Dnf
     → is_dnf unit text ≡ true
 dnf-is Time text h = h
-dnf-is Moves text h = h
-dnf-is Multi text h = h
+dnf-is _ text h = h
 
 dns-is : (unit : Measure) (text : List ℕ) → SpellsBare unit text entered.Dns
     → is_dns unit text ≡ true
 dns-is Time text h = h
-dns-is Moves text h = h
-dns-is Multi text h = h
+dns-is _ text h = h
 
 pub read-spelled : (unit : Measure) (text : List ℕ) (x : Entered) → ReadsBare unit text (Ok x)
     → SpellsBare unit text x
@@ -126,39 +109,22 @@ kept unit text r is h =
 
 solution-read : (text : List ℕ) (moves : List Move) (r : Result Entered ScorecardFault)
     → IsSolution text moves → ReadsSolution text r → IsReadAs Moves (entered.Solution moves) r
-solution-read text moves (Ok (entered.Time t p)) h is = absurd is
 solution-read text moves (Ok (entered.Solution others)) h is =
-    inl
-    (ap (λ m. Ok (entered.Solution m))
+    inl (ap (λ m. Ok (entered.Solution m))
     (spells_once (mended text) others moves is.tokens h.tokens))
-solution-read text moves (Ok (entered.Multi s a t)) h is = absurd is
-solution-read text moves (Ok entered.Dnf) h is = absurd is
-solution-read text moves (Ok entered.Dns) h is = absurd is
-solution-read text moves (Err fault.Empty) h is = absurd is
-solution-read text moves (Err fault.NotATime) h is = absurd is
-solution-read text moves (Err fault.BadSeconds) h is = absurd is
-solution-read text moves (Err fault.OutOfRange) h is = absurd is
-solution-read text moves (Err fault.BadPenalty) h is = absurd is
-solution-read text moves (Err fault.NotAResult) h is = absurd is
-solution-read text moves (Err fault.BadAttempted) h is = absurd is
-solution-read text moves (Err (fault.MoreSolved a)) h is = absurd is
-solution-read text moves (Err fault.NoSeconds) h is = absurd is
 solution-read text moves (Err fault.NotMoves) h is = absurd (is moves h)
 solution-read text moves (Err fault.NoMemory) h is = inr (refl, refl)
+solution-read text moves _ h is = absurd is
 
 -- a word of no result is not empty
-dnf-some : (unit : Measure) (text : List ℕ) → is_dnf unit text ≡ true
-    → (length text == 0) ≡ false
+dnf-some : (unit : Measure) (text : List ℕ) → is_dnf unit text ≡ true → (length text == 0) ≡ false
 dnf-some Time [] h = absurd (false≢true h)
-dnf-some Moves [] h = absurd (false≢true h)
-dnf-some Multi [] h = absurd (false≢true h)
+dnf-some _ [] h = absurd (false≢true h)
 dnf-some unit (b ∷ bs) h = grind (arith, nat_tests)
 
-dns-some : (unit : Measure) (text : List ℕ) → is_dns unit text ≡ true
-    → (length text == 0) ≡ false
+dns-some : (unit : Measure) (text : List ℕ) → is_dns unit text ≡ true → (length text == 0) ≡ false
 dns-some Time [] h = absurd (false≢true h)
-dns-some Moves [] h = absurd (false≢true h)
-dns-some Multi [] h = absurd (false≢true h)
+dns-some _ [] h = absurd (false≢true h)
 dns-some unit (b ∷ bs) h = grind (arith, nat_tests)
 
 dnf-read : (unit : Measure) (text : List ℕ) (r : Result Entered ScorecardFault)
@@ -215,8 +181,7 @@ no-words text h =
         neither (small text) (codes "*") (codes "dnf" ∷ codes "/" ∷ []) g refl
     go false false f g r = absurd (false≢true r)
 
-dns-no-dnf : (unit : Measure) (text : List ℕ) → is_dns unit text ≡ true
-    → is_dnf unit text ≡ false
+dns-no-dnf : (unit : Measure) (text : List ℕ) → is_dns unit text ≡ true → is_dnf unit text ≡ false
 dns-no-dnf Time text h = no-letters text h
 dns-no-dnf Moves text h = no-words text h
 dns-no-dnf Multi text h = no-letters text h
@@ -237,27 +202,20 @@ spelled-read Time text (entered.Time t p) r h is =
 spelled-read Moves text (entered.Solution moves) r h is =
     solution-read text moves r h (kept Moves text r (by_solution text moves h) is)
 spelled-read Multi text (entered.Multi s a t) r h is =
-    inl
-    (kept Multi text r (by_digit Multi text (multi_begins text s a t h)) is
+    inl (kept Multi text r (by_digit Multi text (multi_begins text s a t h)) is
     ∙ multi-found text s a t h)
 spelled-read unit text entered.Dnf r h is = inl (dnf-read unit text r (dnf-is unit text h) is)
 spelled-read unit text entered.Dns r h is =
     let dns = dns-is unit text h in
     inl (dns-read unit text r (dns-no-dnf unit text dns) dns is)
-spelled-read Time text (entered.Solution moves) r h is = absurd h
-spelled-read Time text (entered.Multi s a t) r h is = absurd h
-spelled-read Moves text (entered.Time t p) r h is = absurd h
-spelled-read Moves text (entered.Multi s a t) r h is = absurd h
-spelled-read Multi text (entered.Time t p) r h is = absurd h
-spelled-read Multi text (entered.Solution moves) r h is = absurd h
+spelled-read _ text _ r h is = absurd h
 
 -- ---- at most one
 
 keep : (unit : Measure) (text : List ℕ) (r : Result Entered ScorecardFault) → IsResult unit text
     → ReadsResult unit text r → ReadsBare unit text r
 keep unit text r is h =
-    subst (λ (a : Bool). Branches unit text r a (is_dnf unit text) (is_dns unit text))
-    (sym is.some)
+    subst (λ (a : Bool). Branches unit text r a (is_dnf unit text) (is_dns unit text)) (sym is.some)
     (subst (λ (b : Bool). Branches unit text r false b (is_dns unit text)) (sym is.dnf)
     (subst (λ (c : Bool). Branches unit text r false false c) (sym is.dns) h))
 
@@ -291,12 +249,7 @@ may-read unit text entered.Dnf h =
     dnf-reads unit text (Ok entered.Dnf) (dnf-is unit text h) refl
 may-read unit text entered.Dns h =
     dns-reads unit text (Ok entered.Dns) (dns-is unit text h) refl
-may-read Time text (entered.Solution moves) h = absurd h
-may-read Time text (entered.Multi s a t) h = absurd h
-may-read Moves text (entered.Time t p) h = absurd h
-may-read Moves text (entered.Multi s a t) h = absurd h
-may-read Multi text (entered.Time t p) h = absurd h
-may-read Multi text (entered.Solution moves) h = absurd h
+may-read _ text _ h = absurd h
 
 pub spelled-once : (unit : Measure) (text : List ℕ) (x y : Entered) → SpellsBare unit text x
     → SpellsBare unit text y → x ≡ y
@@ -311,8 +264,7 @@ spelled-once unit text x y h k = go (spelled-read unit text x (Ok y) h (may-read
 pub field-read : (unit unit' : Measure) (bytes bytes' : List ℕ) (r : Result Entered ScorecardFault)
     → unit ≡ unit' → bytes ≡ bytes' → ReadsBare unit bytes r → ReadsBare unit' bytes' r
 field-read unit unit' bytes bytes' r a b h =
-    subst (λ (u : Measure). ReadsBare u bytes' r) a
-    (subst (λ (t : List ℕ). ReadsBare unit t r) b h)
+    subst (λ (u : Measure). ReadsBare u bytes' r) a (subst (λ (t : List ℕ). ReadsBare unit t r) b h)
 
 pub field-found : (unit : Measure) (text : List ℕ) (r : Result Entered ScorecardFault)
     → Reads unit text r → (x : Entered) → r ≡ Ok x → Spells unit text x
@@ -334,8 +286,7 @@ short_number most text n h =
     let short = digits_value_short own text most h.decimal h.few in
     let value = h.value in omega (arith, short)
 
-clock_short : (text : List ℕ) (t : ℕ) → IsFilledSeconds text t ⊎ IsMinutesSeconds text t
-    → t ≤ 5999
+clock_short : (text : List ℕ) (t : ℕ) → IsFilledSeconds text t ⊎ IsMinutesSeconds text t → t ≤ 5999
 clock_short text t (inl f) = step (nat_le 100 f.number) refl
   where
     step : (b : Bool) → nat_le 100 f.number ≡ b → t ≤ 5999
@@ -371,12 +322,7 @@ spelled-fits Multi text (entered.Multi s a t) h =
     ((omega arith, h.all), (h.two, h.few), (h.some, clock_short h.clock t h.form))
 spelled-fits unit text entered.Dnf h = tt
 spelled-fits unit text entered.Dns h = tt
-spelled-fits Time text (entered.Solution moves) h = absurd h
-spelled-fits Time text (entered.Multi s a t) h = absurd h
-spelled-fits Moves text (entered.Time t p) h = absurd h
-spelled-fits Moves text (entered.Multi s a t) h = absurd h
-spelled-fits Multi text (entered.Time t p) h = absurd h
-spelled-fits Multi text (entered.Solution moves) h = absurd h
+spelled-fits _ text _ h = absurd h
 
 pub field-fits : (unit : Measure) (text : List ℕ) (r : Result Entered ScorecardFault)
     → Reads unit text r → IfOk r IsEntered

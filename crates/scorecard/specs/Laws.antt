@@ -1,21 +1,15 @@
 -- What holds of all readings: a text has at most one, and what a sheet prints is read back (the
 -- project's own).
 use Rattle.std.specs.Prelude.{◌≡◌, ℕ, ◌≤◌, List, Option, None}
-use Rattle.attempts.specs.declared.Outcome.{Outcome}
-use Rattle.attempts.specs.declared.Outcome.TheVariants as outcome
-use Rattle.attempts.specs.declared.Unit.{Unit as Measure}
+use Rattle.attempts.specs.declared.{Outcome.Outcome, Unit.Unit as Measure, Value.Value}
 use Rattle.attempts.specs.declared.Unit.TheVariants.{Time, Moves, Multi}
-use Rattle.attempts.specs.declared.Value.{Value}
+use Rattle.attempts.specs.{Attempts.IsOutcome, Attempts.value_of, Texts.value_text}
+use Rattle.formats.specs.{declared.events.Event.Event, Events.unit_of}
+use Rattle.texts.specs.{declared.command.Entered.Entered, Spelling.IsEntered}
+use Rattle.scorecard.specs.{Spelling.Spells, Typed.entered_typed}
+use Rattle.attempts.specs.declared.Outcome.TheVariants as outcome
 use Rattle.attempts.specs.declared.Value.TheVariants as value
-use Rattle.attempts.specs.Attempts.{IsOutcome, value_of}
-use Rattle.attempts.specs.Texts.{value_text}
-use Rattle.formats.specs.declared.events.Event.{Event}
-use Rattle.formats.specs.Events.{unit_of}
-use Rattle.texts.specs.declared.command.Entered.{Entered}
 use Rattle.texts.specs.declared.command.Entered.TheVariants as entered
-use Rattle.texts.specs.Spelling.{IsEntered}
-use Rattle.scorecard.specs.Spelling.{Spells}
-use Rattle.scorecard.specs.Typed.{entered_typed}
 
 -- a text spells one outcome at most
 abbrev pub SpellsOnce : Type 0
@@ -58,8 +52,7 @@ IsReadBack unit v = (x : Entered) × Spells unit (value_text unit v) x × Counts
 abbrev pub SheetReadsBack : Type 0
 SheetReadsBack =
     (event : Event) (limit : Option ℕ) (x : Outcome) → IsOutcome x → IsOutcomeIn (unit_of event) x
-    → IsReadable (unit_of event) (value_of limit x)
-    → IsReadBack (unit_of event) (value_of limit x)
+    → IsReadable (unit_of event) (value_of limit x) → IsReadBack (unit_of event) (value_of limit x)
 
 -- what may be entered for an attempt of the event: a time, a solution or a result of multi-blind,
 -- and no result

@@ -2,22 +2,18 @@
 -- definitions (the project's own). Which text spells which outcome is in `Spelling`, apart from
 -- this.
 use Rattle.std.specs.Prelude.{◌≡◌, ◌⊎◌, ℕ, ◌+◌, ◌-◌, ◌*◌, ◌/◌, ◌%◌, ◌==◌, ◌&&◌, ◌||◌, nat_le}
-use Rattle.std.specs.Prelude.{if◌then◌else◌, List, length, take, slice_index, codes}
-use Rattle.std.specs.Prelude.{bytes_eq, Option, Some, None, Result, Ok, Err}
-use Rattle.std.specs.Char.{is_ascii_digit}
-use Rattle.std.specs.Bool.{MatchBool}
-use Rattle.std.specs.List.{list_all}
+use Rattle.std.specs.Prelude.{if◌then◌else◌, List, length, take, slice_index, codes, bytes_eq}
+use Rattle.std.specs.Prelude.{Option, Some, None, Result, Ok, Err}
+use Rattle.std.specs.{Char.is_ascii_digit, Bool.MatchBool, List.list_all}
 use Rattle.cube.specs.declared.moves.Move.{Move}
-use Rattle.texts.specs.Numerals.{digits_value}
+use Rattle.texts.specs.{Numerals.digits_value, declared.command.Entered.Entered}
 use Rattle.texts.specs.Fields.{cut, number_between}
 use Rattle.attempts.specs.declared.Unit.{Unit as Measure}
 use Rattle.attempts.specs.declared.Unit.TheVariants.{Time, Moves, Multi}
-use Rattle.texts.specs.declared.command.Entered.{Entered}
-use Rattle.texts.specs.declared.command.Entered.TheVariants as entered
 use Rattle.scorecard.specs.declared.fault.ScorecardFault.{ScorecardFault}
+use Rattle.scorecard.specs.Spelling.{is_among, points, colons, is_dnf, is_dns, trimmed, IsSolution}
+use Rattle.texts.specs.declared.command.Entered.TheVariants as entered
 use Rattle.scorecard.specs.declared.fault.ScorecardFault.TheVariants as fault
-use Rattle.scorecard.specs.Spelling.{is_among, points, colons, is_dnf, is_dns, trimmed}
-use Rattle.scorecard.specs.Spelling.{IsSolution}
 
 infixl 10 ◌>>=◌
 abbrev pub ◌>>=◌ : {A B : Type 0} → Result A ScorecardFault → (A → Result B ScorecardFault)

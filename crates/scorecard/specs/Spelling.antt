@@ -2,16 +2,14 @@
 -- hundredth and has penalties of two seconds (WCA Regulations, articles 9f and 10e). How it is
 -- written is the custom of scorecards, and which of it is read the project's own choice.
 use Rattle.std.specs.Prelude.{◌≡◌, ◌⊎◌, ℕ, ◌+◌, ◌-◌, ◌*◌, ◌/◌, ◌%◌, ◌<◌, ◌≤◌, Bool, true, ◌==◌}
-use Rattle.std.specs.Prelude.{List, [], ◌∷◌, ◌++◌, zero, suc, if◌then◌else◌}
-use Rattle.std.specs.Prelude.{length, map, take, drop, codes, decimal, bytes_eq}
+use Rattle.std.specs.Prelude.{List, [], ◌∷◌, ◌++◌, zero, suc, if◌then◌else◌, length, map, take}
+use Rattle.std.specs.Prelude.{drop, codes, decimal, bytes_eq}
 use Rattle.std.specs.Char.{is_ascii_digit, is_ascii_whitespace, to_ascii_lowercase}
 use Rattle.std.specs.List.{list_all, list_any, prefix_len, suffix_len}
 use Rattle.attempts.specs.declared.Unit.{Unit as Measure}
 use Rattle.attempts.specs.declared.Unit.TheVariants.{Time, Moves, Multi}
-use Rattle.cube.specs.declared.moves.Move.{Move}
-use Rattle.cube.specs.notation.Notation.{Spells as SpellsMoves}
-use Rattle.texts.specs.Numerals.{digits_value}
-use Rattle.texts.specs.declared.command.Entered.{Entered}
+use Rattle.cube.specs.{declared.moves.Move.Move, notation.Notation.Spells as SpellsMoves}
+use Rattle.texts.specs.{Numerals.digits_value, declared.command.Entered.Entered}
 use Rattle.texts.specs.declared.command.Entered.TheVariants as entered
 
 -- ---- digits
@@ -87,8 +85,7 @@ pub record IsTime (text : List ℕ) (time : ℕ) : Type 0 where
 -- their seconds, two for each of one to nine
 abbrev pub IsPenalty : List ℕ → ℕ → Type 0
 IsPenalty mark penalties =
-    ((mark ≡ []) × (penalties ≡ 0))
-    ⊎ ((mark ≡ codes "+") × (penalties ≡ 1))
+    ((mark ≡ []) × (penalties ≡ 0)) ⊎ ((mark ≡ codes "+") × (penalties ≡ 1))
     ⊎ ((mark ≡ codes "++") × (penalties ≡ 2))
     ⊎ ((mark ≡ codes "+" ++ decimal (2 * penalties)) × (1 ≤ penalties) × (penalties ≤ 9))
 

@@ -1,8 +1,7 @@
 //! Digits, and pairs of them after a mark.
 
 ghost use Rattle.std.specs.Prelude.{◌≡◌, ◌<◌, ◌≤◌, ◌^◌, length, option_map, true, IfSome};
-ghost use Rattle.std.specs.Char.{is_ascii_digit};
-ghost use Rattle.std.specs.List.{list_all};
+ghost use Rattle.std.specs.{Char.is_ascii_digit, List.list_all};
 ghost use Rattle.texts.specs.Numerals.{digits_value};
 ghost use Rattle.scorecard.specs.Reading.{number_of, pair_of};
 

@@ -1,10 +1,9 @@
 //! A field of a scorecard, read.
 
 ghost use Rattle.std.specs.Prelude.{◌≡◌, Ok, IfOk};
-ghost use Rattle.texts.specs.Spelling.{IsEntered};
+ghost use Rattle.texts.specs.{Spelling.IsEntered, declared.command.Entered.Entered as Outcome};
 ghost use Rattle.formats.specs.Events.{unit_of};
 ghost use Rattle.scorecard.specs.Spelling.{trimmed, Spells};
-ghost use Rattle.texts.specs.declared.command.Entered.{Entered as Outcome};
 ghost use Rattle.scorecard.specs.Reading.{Reads, ReadsBare, IsReadAs};
 
 use crate::fault::ScorecardFault;

@@ -1,8 +1,7 @@
 //! Solutions of fewest moves.
 
 ghost use Rattle.std.specs.Prelude.{◌≡◌, ◌≤◌, IfOk};
-ghost use Rattle.scorecard.specs.Spelling.{mended};
-ghost use Rattle.scorecard.specs.Reading.{ReadsSolution};
+ghost use Rattle.scorecard.specs.{Spelling.mended, Reading.ReadsSolution};
 
 use crate::fault::ScorecardFault;
 use cube::notation::NotationFault;

@@ -2,10 +2,9 @@
 
 ghost use Rattle.std.specs.Prelude.{◌≡◌, ◌<◌, ◌≤◌, IfOk, option_map, Option, Some, None};
 ghost use Rattle.std.specs.Option.{option_copied};
-ghost use Rattle.scorecard.specs.Reading.{filled, number_of, seconds_with, minutes_with};
+ghost use Rattle.scorecard.specs.Reading.{filled, number_of, seconds_with, minutes_with, halved};
 ghost use Rattle.scorecard.specs.Reading.{before_point, pair_of, clock_of, within_limits, time_of};
-ghost use Rattle.scorecard.specs.Reading.{halved, penalties_of, timed_of};
-ghost use Rattle.scorecard.specs.Spelling.{colons};
+ghost use Rattle.scorecard.specs.{Reading.penalties_of, Reading.timed_of, Spelling.colons};
 ghost use Rattle.texts.specs.Fields.{number_between as between};
 
 use crate::digits::{number_of, pair_of};

@@ -1,8 +1,7 @@
 -- Where OR and XOR are 0.
 use Rattle.std.proofs.Common.{◌≡◌, ℕ, ◌+◌, ◌%◌, ◌<◌, ◌≤◌, max, bit_or, bit_xor, sym, ap, ◌∙◌, arith}
-use Rattle.std.specs.Int.{bit_at}
+use Rattle.std.{specs.Int.bit_at, proofs.lemmas.Nat.Bits.same_from_bits}
 use Rattle.std.proofs.lemmas.Nat.Bits.{bit_at_or, bit_at_xor, bit_at-zero, bit_at-lt}
-use Rattle.std.proofs.lemmas.Nat.Bits.{same_from_bits}
 
 most_none : (a b : ℕ) → max a b ≡ 0 → (a ≡ 0) × (b ≡ 0)
 most_none a b h = (omega arith, omega arith)

@@ -4,12 +4,11 @@ use Rattle.std.proofs.Common.{Option, None, refl, sym, ap, subst, ◌∙◌, app
 use Rattle.std.proofs.Common.{slice_index, slice_set}
 use Rattle.std.specs.Int.{w16, w32, to_be_bytes, from_be_bytes}
 use Rattle.std.proofs.lemmas.List.{append-nil, take_at, get_or-set_same, length-set}
-use Rattle.seal.specs.declared.channel.Channel.{Channel}
-use Rattle.seal.specs.declared.fault.StreamFault.{StreamFault}
+use Rattle.seal.specs.declared.{channel.Channel.Channel, fault.StreamFault.StreamFault}
 use Rattle.seal.specs.Records.{mark, tag, record_of, records, IsBody, AreBodies}
 use Rattle.seal.specs.Streams.{BeginsRecord, joined, HandsOn}
-use Rattle.seal.specs.Laws.{IsNoMark, ReadsBack, GoesOn, IsNotForged, Differs}
-use Rattle.seal.specs.Laws.{HandsOnFront, IsChanged, changed, StopsAtChange, StopsAtOther}
+use Rattle.seal.specs.Laws.{IsNoMark, ReadsBack, GoesOn, IsNotForged, Differs, HandsOnFront}
+use Rattle.seal.specs.Laws.{IsChanged, changed, StopsAtChange, StopsAtOther}
 use Rattle.seal.proofs.Whole.{same_parts, parted, short, length-tag}
 use Rattle.seal.proofs.Ending.{not_begun, one_reading}
 use Rattle.seal.proofs.Reading.{from_zero, reads_only, records-append, bodies-append}

@@ -3,8 +3,7 @@ use Rattle.std.proofs.Common.{◌≡◌, ◌⊎◌, ℕ, suc, ◌+◌, ◌<◌, 
 use Rattle.std.proofs.Common.{drop, Option, Some, None, refl, sym, ap, subst, ◌∙◌, arith, inl, inr}
 use Rattle.std.proofs.Common.{append_assoc}
 use Rattle.std.proofs.lemmas.List.{length-append, take_at, take-append-drop, take-append-le}
-use Rattle.seal.specs.declared.channel.Channel.{Channel}
-use Rattle.seal.specs.declared.fault.StreamFault.{StreamFault}
+use Rattle.seal.specs.declared.{channel.Channel.Channel, fault.StreamFault.StreamFault}
 use Rattle.seal.specs.declared.fault.StreamFault.TheVariants.{BadLength, BadTag}
 use Rattle.seal.specs.Records.{IsLength, IsBody, AreBodies, record_of, records}
 use Rattle.seal.specs.Streams.{length_at, Waits, IsWhole, BeginsRecord, Ends, held_of}

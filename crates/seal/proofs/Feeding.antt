@@ -1,15 +1,11 @@
 -- The steps of an opener, and what was fed to it.
 use Rattle.std.proofs.Common.{◌≡◌, ℕ, suc, ◌+◌, ◌-◌, ◌<◌, ◌≤◌, List, [], ◌∷◌, ◌++◌, length, take}
-use Rattle.std.proofs.Common.{drop}
-use Rattle.std.proofs.Common.{Option, Some, None, refl, sym, ap, subst, ◌∙◌, append_assoc, arith}
-use Rattle.std.proofs.Common.{slice_range, get_or, add-one}
-use Rattle.std.specs.Global.{Vec}
-use Rattle.std.proofs.Math.Seq.{take-add, take-suc}
-use Rattle.std.proofs.lemmas.Grind.{flat_map-append}
-use Rattle.std.proofs.lemmas.List.{take_all, take-append-drop}
-use Rattle.std.proofs.lemmas.List.{length-append, append-nil, length-take, length-drop}
-use Rattle.seal.specs.declared.channel.Channel.{Channel}
-use Rattle.seal.specs.declared.fault.StreamFault.{StreamFault}
+use Rattle.std.proofs.Common.{drop, Option, Some, None, refl, sym, ap, subst, ◌∙◌, append_assoc}
+use Rattle.std.proofs.Common.{arith, slice_range, get_or, add-one}
+use Rattle.std.{specs.Global.Vec, proofs.Math.Seq.take-add, proofs.Math.Seq.take-suc}
+use Rattle.std.proofs.lemmas.{Grind.flat_map-append, List.length-take, List.length-drop}
+use Rattle.std.proofs.lemmas.List.{take_all, take-append-drop, length-append, append-nil}
+use Rattle.seal.specs.declared.{channel.Channel.Channel, fault.StreamFault.StreamFault}
 use Rattle.seal.specs.Records.{IsBody, record_of}
 use Rattle.seal.specs.Streams.{Waits, Ends, Opening, held_of, Reads, FedAt, Fed, stream_of}
 use Rattle.seal.specs.model.Steps.{IsToppedUp, IsRecord, Takes}

@@ -1,18 +1,14 @@
 -- A whole record: its body is after its length, and its tag after its body.
 use Rattle.std.proofs.Common.{◌≡◌, ℕ, ◌+◌, ◌-◌, ◌^◌, ◌<◌, ◌≤◌, List, [], ◌∷◌, ◌++◌, length, take}
 use Rattle.std.proofs.Common.{drop, refl, sym, ap, subst, ◌∙◌, append_assoc, arith, get_or}
-use Rattle.std.proofs.Common.{slice_range}
-use Rattle.std.proofs.Common.{zero, suc, inl, inr}
+use Rattle.std.proofs.Common.{slice_range, zero, suc, inl, inr}
 use Rattle.std.specs.Int.{w16, to_be_bytes, from_be_bytes}
 use Rattle.std.proofs.lemmas.List.{length-append, take_at, drop_at, take-append-drop, drop-drop}
 use Rattle.std.proofs.lemmas.List.{length-take, length-drop, append-nil, get_or-take}
-use Rattle.std.proofs.lemmas.List.{nil_from_length}
-use Rattle.std.proofs.lemmas.List.Folds.{drop_split}
-use Rattle.std.proofs.lemmas.Nat.{be_bytes_2}
-use Rattle.seal.specs.declared.channel.Channel.{Channel}
+use Rattle.std.proofs.lemmas.{List.nil_from_length, List.Folds.drop_split, Nat.be_bytes_2}
+use Rattle.seal.specs.{declared.channel.Channel.Channel, model.Steps.IsBegun, model.Steps.IsRecord}
 use Rattle.seal.specs.Records.{IsLength, IsBody, tag, record_of}
 use Rattle.seal.specs.Streams.{length_at, IsWhole, BeginsRecord}
-use Rattle.seal.specs.model.Steps.{IsBegun, IsRecord}
 use Rattle.seal.proofs.Whole.{length-record, length-tag, begun_length, begun_whole}
 
 -- the body and the tag of a record in their places

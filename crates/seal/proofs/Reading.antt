@@ -1,10 +1,8 @@
 -- What an opener has read, one piece after the other.
 use Rattle.std.proofs.Common.{◌≡◌, ℕ, suc, ◌+◌, ◌<◌, ◌≤◌, List, [], ◌∷◌, ◌++◌, length, Option, Some}
 use Rattle.std.proofs.Common.{None, refl, sym, ap, subst, ◌∙◌, append_assoc, arith, inl}
-use Rattle.std.proofs.lemmas.List.{length-append, append-nil}
-use Rattle.std.proofs.lemmas.Grind.{flat_map-append}
-use Rattle.seal.specs.declared.channel.Channel.{Channel}
-use Rattle.seal.specs.declared.fault.StreamFault.{StreamFault}
+use Rattle.std.proofs.lemmas.{List.length-append, List.append-nil, Grind.flat_map-append}
+use Rattle.seal.specs.declared.{channel.Channel.Channel, fault.StreamFault.StreamFault}
 use Rattle.seal.specs.Records.{IsBody, AreBodies, record_of, records}
 use Rattle.seal.specs.Streams.{Waits, Ends, joined, Opens, HandsOn, HandsOnOnly, Opening, held_of}
 use Rattle.seal.specs.Streams.{Reads}

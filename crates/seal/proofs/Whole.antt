@@ -1,16 +1,13 @@
 -- Records as bytes: their length, their first two bytes, and that none begins another.
 use Rattle.std.proofs.Common.{◌≡◌, ℕ, suc, ◌+◌, ◌-◌, ◌^◌, ◌<◌, ◌≤◌, List, [], ◌∷◌, ◌++◌, length}
-use Rattle.std.proofs.Common.{take}
-use Rattle.std.proofs.Common.{drop, refl, sym, ap, subst, ◌∙◌, append_assoc, arith}
+use Rattle.std.proofs.Common.{take, drop, refl, sym, ap, subst, ◌∙◌, append_assoc, arith}
 use Rattle.std.specs.Int.{w16, to_be_bytes, from_be_bytes}
 use Rattle.std.proofs.lemmas.List.{length-append, take_at, append_cancel_left, take-append-le}
 use Rattle.std.proofs.lemmas.Nat.{from_be_bytes-to_be_bytes_2}
-use Rattle.sha2.proofs.Facts256.{length-sha256}
-use Rattle.sha2.specs.Sha256.{sha256}
-use Rattle.seal.specs.declared.channel.Channel.{Channel}
+use Rattle.sha2.{proofs.Facts256.length-sha256, specs.Sha256.sha256}
+use Rattle.seal.specs.{declared.channel.Channel.Channel, Streams.length_at, Streams.BeginsRecord}
 use Rattle.seal.specs.Hmac.{hmac, key_block, xor_each}
 use Rattle.seal.specs.Records.{IsLength, IsBody, tag, tagged, record_of}
-use Rattle.seal.specs.Streams.{length_at, BeginsRecord}
 
 pub length-hmac : (key text : List ℕ) → length (hmac key text) ≡ 32
 unfolding hmac

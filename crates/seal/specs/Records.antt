@@ -1,8 +1,7 @@
 -- The records of a sealed stream (the project's own).
 use Rattle.std.specs.Prelude.{◌≡◌, ℕ, suc, ◌-◌, ◌^◌, ◌<◌, ◌≤◌, List, [], ◌∷◌, ◌++◌, length, codes}
 use Rattle.std.specs.Int.{w16, w64, to_be_bytes}
-use Rattle.seal.specs.declared.channel.Channel.{Channel}
-use Rattle.seal.specs.declared.channel.Direction.{Direction}
+use Rattle.seal.specs.declared.channel.{Channel.Channel, Direction.Direction}
 use Rattle.seal.specs.declared.channel.Direction.TheVariants.{ToServer, ToClient}
 use Rattle.seal.specs.Hmac.{hmac}
 

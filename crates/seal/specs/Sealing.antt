@@ -1,8 +1,7 @@
 -- What a sealer makes of a body (the project's own).
 use Rattle.std.specs.Prelude.{◌≡◌, ℕ, suc, ◌+◌, ◌-◌, ◌^◌, List, length}
-use Rattle.seal.specs.declared.fault.SealFault.{SealFault}
+use Rattle.seal.specs.declared.{fault.SealFault.SealFault, channel.Channel.Channel}
 use Rattle.seal.specs.declared.fault.SealFault.TheVariants.{BadLength, NoNumber, NoMemory}
-use Rattle.seal.specs.declared.channel.Channel.{Channel}
 use Rattle.seal.specs.Records.{IsLength, IsBody, record_of}
 
 -- a sealer: which stream it makes, and the number of the next record

@@ -1,11 +1,8 @@
 -- What a sealed stream holds, and what an opener of it keeps (the project's own).
-use Rattle.std.specs.Prelude.{◌≡◌, ◌⊎◌, ℕ, ◌+◌, ◌<◌, ◌≤◌, List, [], ◌∷◌, ◌++◌, length, take}
-use Rattle.std.specs.Prelude.{Option, Some, None}
-use Rattle.std.specs.Global.{Vec}
-use Rattle.std.specs.List.{flat_map}
-use Rattle.std.specs.Int.{w16, from_be_bytes}
-use Rattle.seal.specs.declared.channel.Channel.{Channel}
-use Rattle.seal.specs.declared.fault.StreamFault.{StreamFault}
+use Rattle.std.specs.Prelude.{◌≡◌, ◌⊎◌, ℕ, ◌+◌, ◌<◌, ◌≤◌, List, [], ◌∷◌, ◌++◌, length, take, Option}
+use Rattle.std.specs.Prelude.{Some, None}
+use Rattle.std.specs.{Global.Vec, List.flat_map, Int.w16, Int.from_be_bytes}
+use Rattle.seal.specs.declared.{channel.Channel.Channel, fault.StreamFault.StreamFault}
 use Rattle.seal.specs.declared.fault.StreamFault.TheVariants.{BadLength, BadTag}
 use Rattle.seal.specs.Records.{IsLength, IsBody, AreBodies, record_of, records}
 

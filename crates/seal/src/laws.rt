@@ -1,8 +1,7 @@
 //! Laws of sealed streams, for all bytes, keys and bodies.
 
 ghost use Rattle.std.specs.Prelude.{ℕ, List, length};
-ghost use Rattle.seal.specs.declared.channel.Channel.{Channel};
-ghost use Rattle.seal.specs.Records.{IsBody, AreBodies};
+ghost use Rattle.seal.specs.{declared.channel.Channel.Channel, Records.IsBody, Records.AreBodies};
 ghost use Rattle.seal.specs.Laws.{IsNoMark, ReadsBack, GoesOn, Differs, HandsOnFront};
 ghost use Rattle.seal.specs.Laws.{StopsAtChange, StopsAtOther};
 

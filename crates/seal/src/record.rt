@@ -1,9 +1,7 @@
 //! The tag of a record.
 
 ghost use Rattle.std.specs.Prelude.{◌≡◌, ◌↔◌, ◌+◌, ◌^◌, ◌<◌, IsTrue, length};
-ghost use Rattle.seal.specs.Records.{tag};
-ghost use Rattle.seal.specs.Streams.{IsWhole, length_at};
-ghost use Rattle.seal.specs.model.Steps.{IsRecord};
+ghost use Rattle.seal.specs.{Records.tag, Streams.IsWhole, Streams.length_at, model.Steps.IsRecord};
 
 use crate::channel::Channel;
 use crate::mac::hmac_of_parts;

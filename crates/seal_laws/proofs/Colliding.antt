@@ -1,20 +1,17 @@
 -- Two HMACs are of one key and one text, or two texts have one digest.
-use Rattle.std.proofs.Common.{◌≡◌, ◌≢◌, ◌⊎◌, ℕ, ◌+◌, ◌-◌, ◌%◌, ◌<◌, ◌==◌, Bool, true, false}
-use Rattle.std.proofs.Common.{List, [], ◌∷◌, ◌++◌, length, replicate, bit_xor}
-use Rattle.std.proofs.Common.{refl, sym, ap, ◌∙◌, arith, inl, inr}
-use Rattle.std.specs.Int.{bit_at}
-use Rattle.std.proofs.lemmas.Bool.{eqb-true, eqb-false}
-use Rattle.std.proofs.lemmas.List.{length-append, length-map}
+use Rattle.std.proofs.Common.{◌≡◌, ◌≢◌, ◌⊎◌, ℕ, ◌+◌, ◌-◌, ◌%◌, ◌<◌, Bool, true, false, List, []}
+use Rattle.std.proofs.Common.{◌∷◌, ◌++◌, length, replicate, bit_xor, refl, sym, ap, ◌∙◌, arith}
+use Rattle.std.proofs.{Common.bytes_eq, lemmas.Slice.Eq.bytes_eq-Decides}
+use Rattle.std.proofs.lemmas.Bool.{false≢true}
+use Rattle.std.{proofs.Common.inl, proofs.Common.inr, specs.Int.bit_at}
+use Rattle.std.proofs.lemmas.{List.length-append, List.length-map}
 use Rattle.std.proofs.lemmas.Nat.Bits.{bit_at_xor, bit_at-lt, same_from_bits}
 use Rattle.sha2.specs.Sha256.{sha256}
-use Rattle.seal.specs.declared.channel.Channel.{Channel}
-use Rattle.seal.specs.declared.channel.Direction.{Direction}
+use Rattle.seal.specs.declared.channel.{Channel.Channel, Direction.Direction}
 use Rattle.seal.specs.declared.channel.Direction.TheVariants.{ToServer, ToClient}
 use Rattle.seal.specs.Hmac.{hmac, key_block, short_key, xor_each}
-use Rattle.seal.specs.Laws.{HandsOnFront}
+use Rattle.seal.{specs.Laws.HandsOnFront, proofs.Differing.at_other, proofs.Whole.parted}
 use Rattle.seal.specs.Records.{key_of, record_of, records, tag, tagged}
-use Rattle.seal.proofs.Differing.{at_other}
-use Rattle.seal.proofs.Whole.{parted}
 use Rattle.sealed.specs.Tunnels.{channel_of}
 use Rattle.seal_laws.specs.Collisions.{AreOneConnection, BackIsElsewhere, Collide, KeysTell}
 use Rattle.seal_laws.specs.Collisions.{MacsTell, StopsUnlessTheyCollide, inner, outer}
@@ -22,18 +19,12 @@ use Rattle.seal_laws.proofs.Telling.{first_and_rest, key_text, tells, tells_side
 
 -- ---- whether two lists are the same
 
-same_heads : (x y : ℕ) (xs ys : List ℕ) (test : Bool) → (x == y) ≡ test
-    → (xs ≡ ys) ⊎ (xs ≢ ys) → (x ∷ xs ≡ y ∷ ys) ⊎ (x ∷ xs ≢ y ∷ ys)
-same_heads x y xs ys true is (inl e) = let f : x ≡ y = eqb-true x y is in inl cc
-same_heads x y xs ys true is (inr d) = inr (λ e. d (first_and_rest x y xs ys e).1)
-same_heads x y xs ys false is rest =
-    inr (λ e. eqb-false x y is (first_and_rest x y xs ys e).0)
-
 same_or_not : (a b : List ℕ) → (a ≡ b) ⊎ (a ≢ b)
-same_or_not [] [] = inl refl
-same_or_not [] (y ∷ ys) = inr (λ e. cc)
-same_or_not (x ∷ xs) [] = inr (λ e. cc)
-same_or_not (x ∷ xs) (y ∷ ys) = same_heads x y xs ys (x == y) refl (same_or_not xs ys)
+same_or_not a b = step (bytes_eq a b) refl
+  where
+    step : (t : Bool) → bytes_eq a b ≡ t → (a ≡ b) ⊎ (a ≢ b)
+    step true is = inl ((bytes_eq-Decides a b).0 is)
+    step false is = inr (λ e. false≢true (sym is ∙ (bytes_eq-Decides a b).1 e))
 
 -- ---- pads
 
@@ -63,8 +54,7 @@ block_is key h =
     ap (λ (k : List ℕ). k ++ replicate (64 - length k) 0) (short_is key h)
     ∙ ap (λ (n : ℕ). key ++ replicate (64 - n) 0) h
 
-length_pad : (key : List ℕ) (pad : ℕ) → length key ≡ 32
-    → length (xor_each (key_block key) pad) ≡ 64
+length_pad : (key : List ℕ) (pad : ℕ) → length key ≡ 32 → length (xor_each (key_block key) pad) ≡ 64
 length_pad key pad h =
     let zeros : length {A = ℕ} (replicate 32 0) ≡ 32 = refl in
     let whole : length (key ++ replicate 32 0) ≡ 64 =
@@ -108,8 +98,7 @@ outer_tells key text other another h k e (inl same) =
 pub macs_tell : MacsTell
 unfolding hmac
 macs_tell key text other another h k e =
-    outer_tells key text other another h k e
-    (same_or_not (outer key text) (outer other another))
+    outer_tells key text other another h k e (same_or_not (outer key text) (outer other another))
 
 -- ---- records
 
@@ -135,8 +124,7 @@ elsewhere c d n m body X (inr collide) no_place = collide
 
 stops : (c d : Channel) (front : List (List ℕ)) (m : ℕ) (body later : List ℕ) (X : Type 0)
     → (tag d m body ≡ tag c (length front) body) ⊎ (tag d m body ≢ tag c (length front) body)
-    → (tag d m body ≡ tag c (length front) body → X)
-    → (tag d m body ≢ tag c (length front) body
+    → (tag d m body ≡ tag c (length front) body → X) → (tag d m body ≢ tag c (length front) body
     → HandsOnFront c front (records c 0 front ++ (record_of d m body ++ later)))
     → HandsOnFront c front (records c 0 front ++ (record_of d m body ++ later)) ⊎ X
 stops c d front m body later X (inl e) same other = inr (same e)
@@ -146,10 +134,8 @@ pub stops_unless : StopsUnlessTheyCollide
 unfolding text_of
 stops_unless c d front m body later each there here is =
     let n = length front in
-    stops c d front m body later
-    (Collide d.key (tagged d m body) c.key (tagged c n body))
-    (same_or_not (tag d m body) (tag c n body))
-    (λ e.
+    stops c d front m body later (Collide d.key (tagged d m body) c.key (tagged c n body))
+    (same_or_not (tag d m body) (tag c n body)) (λ e.
     elsewhere c d n m body (Collide d.key (tagged d m body) c.key (tagged c n body))
     (tags_tell d c m n body body is.other_key is.key e) (λ same.
     let one = tells d.direction c.direction m n body body there here same.1 in

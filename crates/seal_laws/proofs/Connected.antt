@@ -1,32 +1,23 @@
 -- A connection over which one body was asked, and another answered.
-use Rattle.std.proofs.Common.{◌≡◌, ◌≢◌, ℕ, ◌==◌, ◌<◌, ◌^◌, not, false, List, [], ◌∷◌, ◌++◌}
-use Rattle.std.proofs.Common.{length, take, replicate, Some, None, refl, sym, ap, subst}
-use Rattle.std.proofs.Common.{◌∙◌, arith, inl}
+use Rattle.std.proofs.Common.{◌≡◌, ◌≢◌, ℕ, ◌==◌, ◌<◌, ◌^◌, not, List, [], ◌∷◌, ◌++◌, length, take}
+use Rattle.std.proofs.Common.{replicate, Some, None, refl, sym, ap, subst, ◌∙◌, arith, inl}
 use Rattle.std.proofs.lemmas.List.{append-nil, append_cancel_left}
 use Rattle.sha2.specs.Sha256.{sha256, first_words, schedule, rounds, compress, hash_after}
 use Rattle.sha2.specs.Sha256.{digest_bytes}
-use Rattle.seal.specs.declared.channel.Channel.{Channel}
-use Rattle.seal.specs.declared.fault.StreamFault.TheVariants.{BadTag}
-use Rattle.seal.specs.Hmac.{hmac, key_block}
+use Rattle.seal.specs.declared.{channel.Channel.Channel, fault.StreamFault.TheVariants.BadTag}
+use Rattle.seal.specs.{Hmac.hmac, Hmac.key_block, Streams.BeginsRecord, Streams.IsWhole}
 use Rattle.seal.specs.Records.{IsBody, key_of, preface_of, record_of, records, tag}
-use Rattle.seal.specs.Streams.{BeginsRecord, IsWhole}
 use Rattle.seal.proofs.Whole.{length-record, length_at-record, same_parts, short}
-use Rattle.sealed.specs.declared.callers.Access.TheVariants.{Locked}
-use Rattle.sealed.specs.declared.callers.Holder.{Holder}
+use Rattle.sealed.specs.declared.callers.{Access.TheVariants.Locked, Holder.Holder}
 use Rattle.sealed.specs.declared.callers.Holder.TheVariants.{Hall, Entry}
-use Rattle.sealed.specs.declared.callers.DeskKeys.{DeskKeys}
-use Rattle.sealed.specs.Admitting.{comes_under, goes_under}
-use Rattle.sealed.specs.ServerSeals.{ServerSealOf, IsOfLocks}
-use Rattle.sealed.specs.ClientSeals.{ClientSealOf}
-use Rattle.sealed.specs.Fronts.{IsPrefaced}
-use Rattle.sealed.specs.Sent.{SentAs, SentOver, key_for}
+use Rattle.sealed.specs.{declared.callers.DeskKeys.DeskKeys, ClientSeals.ClientSealOf, Sent.SentAs}
+use Rattle.sealed.specs.{Fronts.IsPrefaced, Tunnels.TunnelOf, ends.ClientStreams.ClientStreamOf}
+use Rattle.sealed.specs.{Admitting.comes_under, Admitting.goes_under, ClientSeals.fresh_client_seal}
+use Rattle.sealed.specs.ServerSeals.{ServerSealOf, IsOfLocks, fresh_server_seal}
+use Rattle.sealed.{specs.Sent.SentOver, specs.Sent.key_for, proofs.Fresh.fresh_of_locks}
 use Rattle.sealed.specs.Trials.{ReadsAll, TrialOf, Tries, entry_of}
-use Rattle.sealed.specs.Tunnels.{TunnelOf}
-use Rattle.sealed.specs.ends.ClientStreams.{ClientStreamOf}
-use Rattle.sealed.proofs.Fresh.{fresh_of_locks}
-use Rattle.seal_laws.specs.BothSides.{AreConnected, EntryIsConnected, IsNotTheHalls}
-use Rattle.seal_laws.specs.BothSides.{SidesAreConnected, fours, threes, two_locks}
-use Rattle.seal_laws.specs.Keys.{AreRandom}
+use Rattle.seal_laws.specs.BothSides.{AreConnected, EntryIsConnected, IsNotTheHalls, fours, threes}
+use Rattle.seal_laws.specs.{BothSides.SidesAreConnected, BothSides.two_locks, Keys.AreRandom}
 
 -- a side that has opened one record, and sealed one
 unfoldable one_each : Channel → Channel → TunnelOf
@@ -75,10 +66,8 @@ record IsTried (locks : DeskKeys) (who : Holder) (key client server question ans
   held : key_for locks who ≡ Some key
   keys : IsOfLocks locks client server trial
   tries : Tries (records (comes_under client server key) 0 (question ∷ [])) question trial
-  gone :
-      SentAs trial.holder trial answer (records (goes_under client server key) 0 (answer ∷ []))
-  apart :
-      IsNotTheHalls who locks client server
+  gone : SentAs trial.holder trial answer (records (goes_under client server key) 0 (answer ∷ []))
+  apart : IsNotTheHalls who locks client server
       (preface_of client ++ records (comes_under client server key) 0 (question ∷ []))
 
 connected_by : (locks : DeskKeys) (who : Holder) (key client server question answer : List ℕ)
@@ -93,27 +82,16 @@ connected_by locks who key client server question answer trial random good fine 
     let there = records comes 0 (question ∷ []) in
     let back = records goes 0 (answer ∷ []) in
     let sent = preface_of client ++ there in
-    let side : ClientSealOf = record {
-      key = key;
-      random = client;
-      held = [];
-      tunnel = Some (one_each goes comes);
-      unsealed = false;
-    } in
+    let side : ClientSealOf =
+    record (fresh_client_seal key client) { tunnel = Some (one_each goes comes) } in
     let caller : ClientStreamOf = record {
       calling = Some side;
       front = take 4 (preface_of server ++ back);
       heard = not (length answer == 0);
       output = [];
     } in
-    let desk : ServerSealOf = record {
-      doors = Locked locks;
-      random = server;
-      held = [];
-      passing = None;
-      trial = Some trial;
-      refusal = None;
-    } in (
+    let desk : ServerSealOf =
+    record (fresh_server_seal (Locked locks) server) { trial = Some trial } in (
       caller,
       desk,
       record {
@@ -206,15 +184,12 @@ first_byte : List ℕ → ℕ
 first_byte [] = 0
 first_byte (x ∷ xs) = x
 
-under_hall : first_byte (tag (comes_under threes fours (replicate 32 1)) 0 (7 ∷ [])) ≡ 185
+-- the first bytes of the tag of one record under either key
+firsts : (first_byte (tag (comes_under threes fours (replicate 32 1)) 0 (7 ∷ [])) ≡ 185)
+    × (first_byte (tag (comes_under threes fours (replicate 32 2)) 0 (7 ∷ [])) ≡ 188)
 unfolding first_byte tag key_of hmac key_block sha256 first_words schedule rounds compress
     hash_after digest_bytes
-under_hall = refl
-
-under_entry : first_byte (tag (comes_under threes fours (replicate 32 2)) 0 (7 ∷ [])) ≡ 188
-unfolding first_byte tag key_of hmac key_block sha256 first_words schedule rounds compress
-    hash_after digest_bytes
-under_entry = refl
+firsts = (refl, refl)
 
 -- the record is not one under the hall's key
 not_the_halls : ¬ BeginsRecord (comes_under threes fours (replicate 32 1)) 0
@@ -227,7 +202,7 @@ not_the_halls (body, more, good, is) =
     let tags : tag entry 0 (7 ∷ []) ≡ tag hall 0 (7 ∷ []) =
     parts.1 ∙ ap (λ (b : List ℕ). tag hall 0 b) (sym parts.0) in
     let bytes : 188 ≡ 185 =
-    sym under_entry ∙ ap (λ (t : List ℕ). first_byte t) tags ∙ under_hall in
+    sym firsts.1 ∙ ap (λ (t : List ℕ). first_byte t) tags ∙ firsts.0 in
     omega (arith, bytes)
 
 -- a side that has opened nothing, since a record did not fit
@@ -265,15 +240,6 @@ nothing_opened comes goes other body good apart = record {
 seven : IsBody 0 (7 ∷ [])
 seven = ((omega arith, omega arith), omega arith)
 
--- what the caller sent has one stream after its preface
-one_stream : (s : List ℕ)
-    → preface_of threes ++ records (comes_under threes fours (replicate 32 2)) 0 ((7 ∷ []) ∷ [])
-    ≡ preface_of threes ++ s
-    → records (comes_under threes fours (replicate 32 2)) 0 ((7 ∷ []) ∷ []) ≡ s
-one_stream s is =
-    append_cancel_left (preface_of threes)
-    (records (comes_under threes fours (replicate 32 2)) 0 ((7 ∷ []) ∷ [])) s is
-
 pub entry_connected : EntryIsConnected
 unfolding one_each
 entry_connected answer fine =
@@ -286,8 +252,7 @@ entry_connected answer fine =
       holder = Some Entry;
     } in
     connected_by two_locks Entry (replicate 32 2) threes fours (7 ∷ []) answer trial
-    (record { of_client = refl; of_server = refl }) seven fine
-    (record {
+    (record { of_client = refl; of_server = refl }) seven fine (record {
       held = refl;
       keys =
           record { hall = refl; entry = refl; hall_sends = refl; entry_sends = refl };
@@ -302,6 +267,7 @@ entry_connected answer fine =
       );
       gone = sealed comes goes answer fine;
       apart = λ s is begins.
-          not_the_halls
-          (subst (λ (x : List ℕ). BeginsRecord hall 0 x) (sym (one_stream s is)) begins);
+          not_the_halls (subst (λ (x : List ℕ). BeginsRecord hall 0 x)
+          (sym (append_cancel_left (preface_of threes) (records comes 0 ((7 ∷ []) ∷ [])) s is))
+          begins);
     })

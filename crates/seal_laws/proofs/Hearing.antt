@@ -1,39 +1,27 @@
 -- Each side of a sealed connection hears what the other was given to send.
-use Rattle.std.proofs.Common.{◌≡◌, ◌≢◌, ◌⊎◌, ℕ, List, [], ◌∷◌, ◌++◌, length}
-use Rattle.std.proofs.Common.{Option, Some, None, refl, sym, ap, subst, ◌∙◌, arith, inl, inr}
-use Rattle.std.proofs.Common.{append_assoc}
+use Rattle.std.proofs.Common.{◌≡◌, ◌≢◌, ◌⊎◌, ℕ, List, [], ◌∷◌, ◌++◌, length, Option, Some, None}
+use Rattle.std.proofs.Common.{refl, sym, ap, subst, ◌∙◌, arith, inl, inr, append_assoc}
 use Rattle.std.proofs.lemmas.List.{append-nil, append_cancel_left, length-append}
 use Rattle.std.specs.Prelude.{IfSome, option_map}
-use Rattle.seal.specs.declared.channel.Channel.{Channel}
-use Rattle.seal.specs.declared.channel.Direction.TheVariants.{ToClient}
-use Rattle.seal.specs.declared.fault.StreamFault.{StreamFault}
+use Rattle.seal.specs.declared.channel.{Channel.Channel, Direction.TheVariants.ToClient}
+use Rattle.seal.specs.{declared.fault.StreamFault.StreamFault, Streams.BeginsRecord, Streams.joined}
 use Rattle.seal.specs.Records.{AreBodies, key_of, mark, preface_of, record_of, records}
-use Rattle.seal.specs.Streams.{BeginsRecord, HandsOn, joined}
-use Rattle.seal.proofs.Differing.{back}
-use Rattle.seal.proofs.Whole.{parted}
-use Rattle.sealed.specs.declared.callers.Caller.{Caller}
+use Rattle.seal.{specs.Streams.HandsOn, proofs.Differing.back, proofs.Whole.parted}
+use Rattle.sealed.specs.declared.callers.{Caller.Caller, Holder.Holder, DeskKeys.DeskKeys}
 use Rattle.sealed.specs.declared.callers.Caller.TheVariants.{Anyone, Visitor}
-use Rattle.sealed.specs.declared.callers.Caller.TheVariants as caller
-use Rattle.sealed.specs.declared.callers.Access.{Access}
-use Rattle.sealed.specs.declared.callers.Access.TheVariants.{Locked}
-use Rattle.sealed.specs.declared.callers.Holder.{Holder}
+use Rattle.sealed.specs.declared.callers.Access.{Access, TheVariants.Locked}
 use Rattle.sealed.specs.declared.callers.Holder.TheVariants.{Hall, Entry}
-use Rattle.sealed.specs.declared.callers.DeskKeys.{DeskKeys}
-use Rattle.sealed.specs.declared.ends.trouble.CallTrouble.{CallTrouble}
+use Rattle.sealed.specs.{declared.ends.trouble.CallTrouble.CallTrouble, Tunnels.channel_of}
 use Rattle.sealed.specs.declared.ends.trouble.CallTrouble.TheVariants.{NoKey, OtherKey, HasKey}
 use Rattle.sealed.specs.Admitting.{Admits, IsNobody, IsSealed, comes_under, goes_under}
 use Rattle.sealed.specs.ServerSeals.{caller_of, held_by}
-use Rattle.sealed.specs.Fronts.{IsShort, IsUnsealed}
-use Rattle.sealed.specs.Sent.{IsSent, IsSentSealed, key_for}
-use Rattle.sealed.specs.Trials.{Hands, HandsBy}
-use Rattle.sealed.specs.Tunnels.{channel_of}
-use Rattle.sealed.specs.ends.ClientStreams.{trouble_of}
-use Rattle.sealed.specs.ends.Laws as ends
-use Rattle.sealed.proofs.Admitted.{admits}
-use Rattle.sealed.proofs.Sending.{sends_what_is_given}
-use Rattle.sealed.proofs.ends.Speaking.{calls_speak}
-use Rattle.sealed.proofs.ends.Telling.{tells_trouble}
+use Rattle.sealed.specs.{Fronts.IsShort, Fronts.IsUnsealed, ends.ClientStreams.trouble_of}
+use Rattle.sealed.specs.{Sent.IsSent, Sent.IsSentSealed, Sent.key_for, Trials.Hands, Trials.HandsBy}
+use Rattle.sealed.proofs.{Admitted.admits, Sending.sends_what_is_given}
+use Rattle.sealed.proofs.ends.{Speaking.calls_speak, Telling.tells_trouble}
 use Rattle.seal_laws.specs.BothSides.{BothSidesHear, IsNotTheHalls}
+use Rattle.sealed.specs.declared.callers.Caller.TheVariants as caller
+use Rattle.sealed.specs.ends.Laws as ends
 
 -- ---- prefaces
 
@@ -246,7 +234,8 @@ desk_side : (w : Option Caller) (who : Holder) (locks : DeskKeys)
     → key_for locks who ≡ Some key → IsNotTheHalls who locks client server sent
     → Went key client server asked sent → Admits (Locked locks) server sent handed w
     → IsSent (Locked locks) server sent w answered out
-    → (handed ≡ asked) × Answered key client server answered out
+    → (handed ≡ asked) × (asked ≢ [] → w ≡ Some (held_by who))
+    × Answered key client server answered out
 desk_side (Some Anyone) who locks key client server sent asked handed answered out sixteen is apart
     w a g = absurd cc
 desk_side (Some Visitor) who locks key client server sent asked handed answered out sixteen is apart
@@ -258,35 +247,18 @@ desk_side (Some (caller.Holder k)) who locks key client server sent asked handed
     let both = sealed_side who (Some k) a.0 locks key client server sent asked handed
     (one_lock a.0 locks a.1) sixteen is apart w a.2 in (
       both.0,
+      λ some. ap (λ (x : Holder). Some (held_by x)) (by_who k who both.1),
       answered_by k who locks key client server sent answered out (by_who k who both.1) is
           sixteen (records (comes_under client server key) 0 w.bodies) w.whole g,
     )
-desk_side None who locks key client server sent asked handed answered out sixteen is apart w a g = (
-  nobody who locks a.0 key client server sent asked handed (one_lock a.0 locks a.1) sixteen is
-      apart w a.2 a.3,
-  record { bodies = []; each = tt; gives = sym g.0; whole = g.1 },
-)
-
--- once something was asked, the desk knows whose key it is
-known_as : (w : Option Caller) (who : Holder) (locks : DeskKeys)
-    (key client server sent asked handed : List ℕ) → length client ≡ 16
-    → key_for locks who ≡ Some key → IsNotTheHalls who locks client server sent
-    → Went key client server asked sent → Admits (Locked locks) server sent handed w
-    → handed ≡ asked → asked ≢ [] → w ≡ Some (held_by who)
-known_as (Some Anyone) who locks key client server sent asked handed sixteen is apart w a same
-    some =
-    absurd cc
-known_as (Some Visitor) who locks key client server sent asked handed sixteen is apart w a same
-    some =
-    absurd (sealed_no client (records (comes_under client server key) 0 w.bodies)
-    (subst (λ (s : List ℕ). IsUnsealed s) w.whole a.3))
-known_as (Some (caller.Holder k)) who locks key client server sent asked handed sixteen is apart w a
-    same some =
-    let both = sealed_side who (Some k) a.0 locks key client server sent asked handed
-    (one_lock a.0 locks a.1) sixteen is apart w a.2 in
-    ap (λ (x : Holder). Some (held_by x)) (by_who k who both.1)
-known_as None who locks key client server sent asked handed sixteen is apart w a same some =
-    absurd (some (sym same ∙ a.2))
+desk_side None who locks key client server sent asked handed answered out sixteen is apart w a g =
+    let same : handed ≡ asked =
+    nobody who locks a.0 key client server sent asked handed (one_lock a.0 locks a.1) sixteen is
+    apart w a.2 a.3 in (
+      same,
+      λ some. absurd (some (sym same ∙ a.2)),
+      record { bodies = []; each = tt; gives = sym g.0; whole = g.1 },
+    )
 
 -- ---- what the caller heard
 
@@ -342,14 +314,7 @@ both_hear caller desk asked handed answered heard m =
     let d = desk_side (caller_of desk) m.who m.locks m.key m.client m.server m.sent asked handed
     answered m.back m.random.of_client m.held m.apart w here out in
     let c = caller_side (trouble_of caller) m.key m.client m.server answered m.back heard
-    m.random.of_server d.1
+    m.random.of_server d.2
     (tells_trouble (Some m.key) m.client (preface_of m.server ++ m.back) heard asked m.sent caller
     m.calls) in
-    record {
-      questions = d.0;
-      answers = c.0;
-      fine = c.1;
-      known =
-          known_as (caller_of desk) m.who m.locks m.key m.client m.server m.sent asked handed
-          m.random.of_client m.held m.apart w here d.0;
-    }
+    record { questions = d.0; answers = c.0; fine = c.1; known = d.1 }

@@ -1,15 +1,12 @@
 -- What the texts of tags and keys tell.
-use Rattle.std.proofs.Common.{◌≡◌, ℕ, ◌^◌, ◌<◌, List, [], ◌∷◌, ◌++◌, length, codes}
-use Rattle.std.proofs.Common.{refl, sym, ap, ◌∙◌, arith}
+use Rattle.std.proofs.Common.{◌≡◌, ℕ, ◌^◌, ◌<◌, List, [], ◌∷◌, ◌++◌, length, codes, refl, sym, ap}
+use Rattle.std.proofs.Common.{◌∙◌, arith}
 use Rattle.std.specs.Int.{w16, w64, to_be_bytes, from_be_bytes}
-use Rattle.std.proofs.lemmas.List.{append_cancel_left}
-use Rattle.std.proofs.lemmas.Nat.{from_be_bytes-to_be_bytes_8}
-use Rattle.seal.specs.declared.channel.Direction.{Direction}
+use Rattle.std.proofs.lemmas.{List.append_cancel_left, Nat.from_be_bytes-to_be_bytes_8}
+use Rattle.seal.{specs.declared.channel.Direction.Direction, proofs.Whole.parted}
 use Rattle.seal.specs.declared.channel.Direction.TheVariants.{ToServer, ToClient}
 use Rattle.seal.specs.Records.{direction_byte, tagged}
-use Rattle.seal.proofs.Whole.{parted}
-use Rattle.seal_laws.specs.Tags.{TellsRecords}
-use Rattle.seal_laws.specs.Keys.{TellsSides}
+use Rattle.seal_laws.specs.{Tags.TellsRecords, Keys.TellsSides}
 
 one_way : (way back : Direction) → direction_byte way ≡ direction_byte back → way ≡ back
 one_way ToServer ToServer e = refl

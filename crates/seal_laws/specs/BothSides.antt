@@ -1,17 +1,13 @@
 -- The two sides of a sealed connection: a caller that has one of a desk's keys, and the desk (the
 -- project's own).
 use Rattle.std.specs.Prelude.{◌≡◌, ◌≢◌, ℕ, false, List, [], ◌∷◌, ◌++◌, Some, None, replicate}
-use Rattle.seal.specs.Records.{IsBody, preface_of}
-use Rattle.seal.specs.Streams.{BeginsRecord}
-use Rattle.sealed.specs.declared.callers.Access.TheVariants.{Locked}
-use Rattle.sealed.specs.declared.callers.Holder.{Holder}
+use Rattle.seal.specs.{Records.IsBody, Records.preface_of, Streams.BeginsRecord}
+use Rattle.sealed.specs.declared.callers.{Access.TheVariants.Locked, Holder.Holder}
 use Rattle.sealed.specs.declared.callers.Holder.TheVariants.{Hall, Entry}
-use Rattle.sealed.specs.declared.callers.DeskKeys.{DeskKeys}
-use Rattle.sealed.specs.Admitting.{comes_under}
+use Rattle.sealed.specs.{declared.callers.DeskKeys.DeskKeys, Admitting.comes_under}
 use Rattle.sealed.specs.ServerSeals.{ServerSealOf, Stands, caller_of, held_by}
-use Rattle.sealed.specs.Sent.{HasSent, key_for}
+use Rattle.sealed.specs.{Sent.HasSent, Sent.key_for, ends.Laws.IsCall}
 use Rattle.sealed.specs.ends.ClientStreams.{ClientStreamOf, trouble_of}
-use Rattle.sealed.specs.ends.Laws.{IsCall}
 use Rattle.seal_laws.specs.Keys.{AreRandom}
 
 -- under the entry key: what the caller sent after its preface does not begin with a record that
@@ -64,8 +60,7 @@ BothSidesHear =
 abbrev pub SidesAreConnected : Type 0
 SidesAreConnected =
     (locks : DeskKeys) (client server question answer : List ℕ) → AreRandom client server
-    → IsBody 0 question → IsBody 0 answer
-    → (caller : ClientStreamOf) × (desk : ServerSealOf)
+    → IsBody 0 question → IsBody 0 answer → (caller : ClientStreamOf) × (desk : ServerSealOf)
     × AreConnected caller desk question question answer answer
 
 -- a desk with two keys, and the random bytes of a connection
@@ -86,6 +81,5 @@ fours = replicate 16 4
 -- and there is one under the entry key, over which one byte is asked, whatever is answered
 abbrev pub EntryIsConnected : Type 0
 EntryIsConnected =
-    (answer : List ℕ) → IsBody 0 answer
-    → (caller : ClientStreamOf) × (desk : ServerSealOf)
+    (answer : List ℕ) → IsBody 0 answer → (caller : ClientStreamOf) × (desk : ServerSealOf)
     × (m : AreConnected caller desk (7 ∷ []) (7 ∷ []) answer answer) × (m.who ≡ Entry)

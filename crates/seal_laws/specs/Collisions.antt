@@ -2,14 +2,12 @@
 -- not of one record or of one connection (the project's own).
 use Rattle.std.specs.Prelude.{◌≡◌, ◌≢◌, ◌⊎◌, ℕ, List, ◌++◌, codes, length}
 use Rattle.sha2.specs.Sha256.{sha256}
-use Rattle.seal.specs.declared.channel.Channel.{Channel}
+use Rattle.seal.specs.{declared.channel.Channel.Channel, Laws.HandsOnFront}
 use Rattle.seal.specs.declared.channel.Direction.TheVariants.{ToServer, ToClient}
 use Rattle.seal.specs.Hmac.{hmac, key_block, xor_each}
 use Rattle.seal.specs.Records.{AreBodies, key_of, record_of, records, tagged}
-use Rattle.seal.specs.Laws.{HandsOnFront}
 use Rattle.sealed.specs.Tunnels.{channel_of}
-use Rattle.seal_laws.specs.Keys.{AreRandom}
-use Rattle.seal_laws.specs.Tags.{IsTagged}
+use Rattle.seal_laws.specs.{Keys.AreRandom, Tags.IsTagged}
 
 -- what is hashed first for an HMAC, and what then (RFC 2104, section 2)
 abbrev pub inner : List ℕ → List ℕ → List ℕ
@@ -48,8 +46,7 @@ abbrev pub StopsUnlessTheyCollide : Type 0
 StopsUnlessTheyCollide =
     (channel other : Channel) (front : List (List ℕ)) (number : ℕ) (body later : List ℕ)
     → AreBodies 0 front → IsTagged number body → IsTagged (length front) body
-    → IsElsewhere channel other (length front) number
-    → HandsOnFront channel front
+    → IsElsewhere channel other (length front) number → HandsOnFront channel front
     (records channel 0 front ++ (record_of other number body ++ later))
     ⊎ Collide other.key (tagged other number body) channel.key (tagged channel (length front) body)
 

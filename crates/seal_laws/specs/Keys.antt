@@ -1,7 +1,6 @@
 -- What the key of a connection is made of (the project's own).
 use Rattle.std.specs.Prelude.{◌≡◌, ℕ, List, length}
-use Rattle.seal.specs.Hmac.{hmac}
-use Rattle.seal.specs.Records.{key_of}
+use Rattle.seal.specs.{Hmac.hmac, Records.key_of}
 
 -- the random bytes of the two sides of a connection
 pub record AreRandom (client server : List ℕ) : Type 0 where

@@ -1,9 +1,7 @@
 -- What a tag is made of (the project's own).
 use Rattle.std.specs.Prelude.{◌≡◌, ℕ, ◌^◌, ◌<◌, List, length}
-use Rattle.seal.specs.declared.channel.Channel.{Channel}
-use Rattle.seal.specs.declared.channel.Direction.{Direction}
-use Rattle.seal.specs.Hmac.{hmac}
-use Rattle.seal.specs.Records.{tag}
+use Rattle.seal.specs.declared.channel.{Channel.Channel, Direction.Direction}
+use Rattle.seal.specs.{Hmac.hmac, Records.tag}
 
 -- a record may have a number of 64 bits, and a body whose length has 16
 pub record IsTagged (number : ℕ) (body : List ℕ) : Type 0 where
@@ -27,6 +25,5 @@ TellsRecords text =
 pub record TagsAreOfRecords : Type 0 where
   pub text : Direction → ℕ → List ℕ → List ℕ
   pub tells : TellsRecords text
-  pub made :
-      (c : Channel) (number : ℕ) (body : List ℕ)
+  pub made : (c : Channel) (number : ℕ) (body : List ℕ)
       → tag c number body ≡ hmac c.key (text c.direction number body)

@@ -35,6 +35,5 @@ pub record WorksHmac : Type 0 where
       hmac (replicate 131 0xAA) (codes "Test Using Larger Than Block-Size Key - Hash Key First")
       ≡ digest_under_long_key
   -- a key of 64 bytes is in each block as it is
-  pub whole :
-      (key text : List ℕ) → length key ≡ 64
+  pub whole : (key text : List ℕ) → length key ≡ 64
       → hmac key text ≡ sha256 (xor_each key 0x5C ++ sha256 (xor_each key 0x36 ++ text))

@@ -2,10 +2,8 @@
 
 ghost use Rattle.seal_laws.specs.BothSides.{BothSidesHear, EntryIsConnected, SidesAreConnected};
 ghost use Rattle.seal_laws.specs.Collisions.{BackIsElsewhere, KeysTell, MacsTell};
-ghost use Rattle.seal_laws.specs.Collisions.{StopsUnlessTheyCollide};
-ghost use Rattle.seal_laws.specs.Keys.{KeysAreOfBothSides};
-ghost use Rattle.seal_laws.specs.Tags.{TagsAreOfRecords};
-ghost use Rattle.seal_laws.specs.WorkedHmac.{WorksHmac};
+ghost use Rattle.seal_laws.specs.{Collisions.StopsUnlessTheyCollide, Keys.KeysAreOfBothSides};
+ghost use Rattle.seal_laws.specs.{Tags.TagsAreOfRecords, WorkedHmac.WorksHmac};
 
 /// Cases of HMAC-SHA-256 from RFC 4231, and what becomes of a key of one block.
 pub fn worked_hmac()

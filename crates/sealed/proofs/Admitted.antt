@@ -1,22 +1,16 @@
 -- What a desk's side stands for is what the desk admits.
-use Rattle.std.proofs.Common.{◌≡◌, ℕ, List, [], inl, inr}
-use Rattle.std.proofs.Common.{Option, Some, None, refl, sym, ap, subst, ◌∙◌}
-use Rattle.std.specs.Prelude.{IfSome, option_map}
-use Rattle.seal.specs.declared.channel.Channel.{Channel}
-use Rattle.seal.proofs.Reading.{reads_all}
-use Rattle.sealed.specs.declared.callers.Caller.{Caller}
-use Rattle.sealed.specs.declared.callers.Caller.TheVariants.{Anyone, Visitor}
-use Rattle.sealed.specs.declared.callers.Caller.TheVariants as caller
-use Rattle.sealed.specs.declared.callers.Holder.{Holder}
-use Rattle.sealed.specs.declared.callers.Holder.TheVariants.{Hall, Entry}
-use Rattle.sealed.specs.declared.callers.StreamRefusal.{StreamRefusal}
+use Rattle.std.proofs.Common.{◌≡◌, ℕ, List, [], inl, inr, Option, Some, None, refl, sym, ap, ◌∙◌}
+use Rattle.std.{proofs.Common.subst, specs.Prelude.IfSome, specs.Prelude.option_map}
+use Rattle.seal.{specs.declared.channel.Channel.Channel, proofs.Reading.reads_all}
+use Rattle.sealed.specs.declared.callers.Caller.{Caller, TheVariants.Anyone, TheVariants.Visitor}
+use Rattle.sealed.specs.declared.callers.Holder.{Holder, TheVariants.Hall, TheVariants.Entry}
+use Rattle.sealed.specs.{declared.callers.StreamRefusal.StreamRefusal, Tunnels.TunnelOf}
 use Rattle.sealed.specs.declared.callers.StreamRefusal.TheVariants.{Unsealed, NoMemory}
 use Rattle.sealed.specs.Admitting.{Admits, IsSealed, comes_under}
 use Rattle.sealed.specs.ServerSeals.{ServerSealOf, StandsAt, StandsPassing, StandsReading}
-use Rattle.sealed.specs.ServerSeals.{StandsTrying}
-use Rattle.sealed.specs.ServerSeals.{caller_by, caller_of, held_by}
+use Rattle.sealed.specs.ServerSeals.{StandsTrying, caller_by, caller_of, held_by}
 use Rattle.sealed.specs.Trials.{Hands, HandsBy, ReadsAll, TrialOf, TriesAs, comes_by, entry_by}
-use Rattle.sealed.specs.Tunnels.{TunnelOf}
+use Rattle.sealed.specs.declared.callers.Caller.TheVariants as caller
 
 -- what a connection has read and handed on
 pub hands_of : (c : Channel) (t : TunnelOf) (s x : List ℕ) → comes_by t ≡ c → ReadsAll t s x
@@ -84,14 +78,12 @@ admits_passing (Some (caller.Holder key)) c came handed h = absurd h
 admits_passing None c came handed h = (h.0, h.1, h.4, inl h.2)
 
 admits_trial : (o : Option TrialOf) (c : ServerSealOf) (came handed : List ℕ) → c.trial ≡ o
-    → StandsReading c o came handed
-    → Admits c.doors c.random came handed (caller_by o c.passing)
+    → StandsReading c o came handed → Admits c.doors c.random came handed (caller_by o c.passing)
 admits_trial None c came handed is h = admits_passing c.passing c came handed h
 admits_trial (Some t) c came handed is h = admits_holder t.holder c t came handed refl h
 
 admits_at : (r : Option StreamRefusal) (c : ServerSealOf) (came handed : List ℕ)
-    → StandsAt r c came handed
-    → Admits c.doors c.random came handed (caller_of c)
+    → StandsAt r c came handed → Admits c.doors c.random came handed (caller_of c)
 admits_at None c came handed h = admits_trial c.trial c came handed refl h
 admits_at (Some Unsealed) c came handed h =
     subst (λ (p : Option Caller). Admits c.doors c.random came handed p) (sym h.nobody)

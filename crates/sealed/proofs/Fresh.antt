@@ -2,10 +2,8 @@
 use Rattle.std.proofs.Common.{◌≡◌, ℕ, List, [], Option, Some, None, refl, arith, inl}
 use Rattle.std.specs.Prelude.{IfSome, option_map}
 use Rattle.seal.proofs.Reading.{reads_none}
-use Rattle.sealed.specs.declared.callers.DeskKeys.{DeskKeys}
+use Rattle.sealed.specs.{declared.callers.DeskKeys.DeskKeys, ServerSeals.IsOfLocks, Sent.IsNew}
 use Rattle.sealed.specs.Admitting.{comes_under, goes_under}
-use Rattle.sealed.specs.ServerSeals.{IsOfLocks}
-use Rattle.sealed.specs.Sent.{IsNew}
 use Rattle.sealed.specs.Trials.{ReadsAll, Tries, comes_by, entry_of, fresh_trial, goes_by}
 
 entry_fresh : (entry : Option (List ℕ)) (client server : List ℕ)

@@ -1,27 +1,9 @@
 -- The front of a stream, as more of it comes.
-use Rattle.std.proofs.Common.{◌≡◌, ℕ, ◌<◌, ◌≤◌, List, ◌++◌, length, take, drop}
-use Rattle.std.proofs.Common.{sym, ap, ◌∙◌, append_assoc, arith, inl, inr}
-use Rattle.std.proofs.lemmas.List.{length-append, length-take, take_all, take-append-drop}
-use Rattle.std.proofs.lemmas.List.{take-append-le}
+use Rattle.std.proofs.Common.{◌≡◌, ℕ, List, ◌++◌, length, take, drop, sym, ap, ◌∙◌, arith}
+use Rattle.std.proofs.{Common.append_assoc, lemmas.List.take-append-le}
+use Rattle.std.proofs.lemmas.List.{length-append, take-append-drop}
 use Rattle.seal.specs.Records.{preface_of}
-use Rattle.sealed.specs.Fronts.{IsPrefaced, IsShort, IsUnsealed}
-use Rattle.sealed.specs.model.Steps.{IsHeld}
-
-short_length : (bytes : List ℕ) → IsShort bytes → length bytes < 20
-short_length bytes (inl h) = omega arith
-short_length bytes (inr h) = h.1
-
--- where it isn't known yet what a stream is, all that came is held
-pub all_held : (came piece old new : List ℕ) (added : ℕ) → IsHeld piece old new added
-    → old ≡ came → IsShort new → new ≡ came ++ piece
-all_held came piece old new added held is short =
-    let less = short_length new short in
-    let whole = ap (λ (s : List ℕ). length s) held.held in
-    let long = length-append old (take added piece) in
-    let all : length piece ≤ added =
-    omega (arith, less, whole, long, held.counted, length-take added piece) in
-    held.held ∙ ap (λ (s : List ℕ). old ++ s) (take_all added piece all)
-    ∙ ap (λ (s : List ℕ). s ++ piece) is
+use Rattle.sealed.specs.{Fronts.IsPrefaced, Fronts.IsUnsealed, model.Steps.IsHeld}
 
 -- what came is what is held, and the rest of the piece
 pub held_and_rest : (came piece old new : List ℕ) (added : ℕ) → IsHeld piece old new added

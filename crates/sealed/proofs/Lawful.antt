@@ -1,17 +1,12 @@
 -- The laws of the two sides of a connection.
-use Rattle.std.proofs.Common.{◌≡◌, ◌⊎◌, ℕ, ◌+◌, List, [], ◌++◌, length, true, false, Bool}
-use Rattle.std.proofs.Common.{Option, Some, None, refl, sym, ap, subst, ◌∙◌, arith}
-use Rattle.std.proofs.Common.{inl, inr}
-use Rattle.std.proofs.lemmas.List.{length-append, append-nil}
-use Rattle.std.proofs.lemmas.Grind.{flat_map-append}
-use Rattle.seal.specs.declared.channel.Channel.{Channel}
+use Rattle.std.proofs.Common.{◌≡◌, ◌⊎◌, ℕ, ◌+◌, List, [], ◌++◌, length, true, false, Bool, Option}
+use Rattle.std.proofs.Common.{Some, None, refl, sym, ap, subst, ◌∙◌, arith, inl, inr}
+use Rattle.std.proofs.lemmas.{List.length-append, List.append-nil, Grind.flat_map-append}
+use Rattle.seal.specs.{declared.channel.Channel.Channel, Sealing.Sealing, Streams.joined}
 use Rattle.seal.specs.Records.{AreBodies, records}
-use Rattle.seal.specs.Sealing.{Sealing}
-use Rattle.seal.specs.Streams.{joined}
 use Rattle.seal.proofs.Reading.{bodies-append, records-append}
 use Rattle.sealed.specs.ClientSeals.{ClientSealOf, IsOpened, StandsBy, StandsClosed}
-use Rattle.sealed.specs.Laws.{HolderIsAdmitted, SealsOn}
-use Rattle.sealed.specs.Tunnels.{TunnelOf}
+use Rattle.sealed.specs.{Laws.HolderIsAdmitted, Laws.SealsOn, Tunnels.TunnelOf}
 use Rattle.sealed.proofs.Admitted.{hands_of}
 
 opens_closed : (b : Bool) (c : ClientSealOf) (came handed : List ℕ) → StandsClosed b c came handed

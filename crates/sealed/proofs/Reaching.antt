@@ -1,20 +1,24 @@
 -- The side of whoever calls a desk, as more of the stream comes.
-use Rattle.std.proofs.Common.{◌≡◌, ℕ, List, [], ◌++◌, length, drop, true, false, Bool}
-use Rattle.std.proofs.Common.{Option, Some, None, sym, ap, subst, ◌∙◌}
+use Rattle.std.proofs.Common.{◌≡◌, ℕ, List, [], ◌++◌, length, drop, true, false, Bool, Option, Some}
+use Rattle.std.proofs.Common.{None, sym, ap, subst, ◌∙◌}
 use Rattle.std.proofs.lemmas.List.{append-nil}
-use Rattle.seal.specs.declared.channel.Direction.TheVariants.{ToClient}
+use Rattle.seal.specs.{declared.channel.Direction.TheVariants.ToClient, Streams.Fed}
 use Rattle.seal.specs.Records.{key_of, preface_of}
-use Rattle.seal.specs.Streams.{Fed}
 use Rattle.sealed.specs.ClientSeals.{ClientSealOf, Receives, SendsOn, Stands, StandsBy}
-use Rattle.sealed.specs.ClientSeals.{StandsClosed}
-use Rattle.sealed.specs.Fronts.{IsUnsealed}
-use Rattle.sealed.specs.Trials.{ReadsAll}
-use Rattle.sealed.specs.Tunnels.{TunnelOf, channel_of}
-use Rattle.sealed.specs.model.Opening.{OpensTo}
-use Rattle.sealed.specs.model.Steps.{IsHeld}
-use Rattle.sealed.proofs.Fronting.{held_and_rest, prefaced_first, prefaced_more}
-use Rattle.sealed.proofs.Fronting.{unsealed_more}
-use Rattle.sealed.proofs.Trying.{fed_all, fed_same}
+use Rattle.sealed.specs.{ClientSeals.StandsClosed, Fronts.IsUnsealed, Trials.ReadsAll}
+use Rattle.sealed.{specs.Tunnels.TunnelOf, specs.Tunnels.channel_of, proofs.Trying.fed_same}
+use Rattle.sealed.{specs.model.Opening.OpensTo, specs.model.Steps.IsHeld, proofs.Trying.fed_all}
+use Rattle.sealed.proofs.Fronting.{held_and_rest, prefaced_first, prefaced_more, unsealed_more}
+
+-- a caller's side with this
+abbrev pub caller_side : List ℕ → List ℕ → List ℕ → Option TunnelOf → Bool → ClientSealOf
+caller_side key random held tunnel unsealed = record {
+  key = key;
+  random = random;
+  held = held;
+  tunnel = tunnel;
+  unsealed = unsealed;
+}
 
 is_closed : (b : Bool) (c : ClientSealOf) (came handed : List ℕ) → c.tunnel ≡ None → c.unsealed ≡ b
     → Stands c came handed → StandsClosed b c came handed
@@ -76,8 +80,7 @@ receives_first old mid new piece server more added o1 o2 key random held sixteen
           prefaced_first came piece old.held mid.held server added held q.1 sixteen is in
           let all : handed ++ more ≡ more = ap (λ (s : List ℕ). s ++ more) q.2 in
           subst (λ (t : Option TunnelOf). StandsBy t new (came ++ piece) (handed ++ more))
-          (sym tunnel)
-          (record {
+          (sym tunnel) (record {
             server = server;
             stream = drop added piece;
             prefaced = prefaced;

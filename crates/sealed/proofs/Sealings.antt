@@ -1,13 +1,9 @@
 -- Records of bytes, one after the other.
-use Rattle.std.proofs.Common.{◌≡◌, ℕ, ◌+◌, ◌-◌, ◌≤◌, List, [], ◌∷◌, ◌++◌, length, take}
-use Rattle.std.proofs.Common.{refl, sym, ap, subst, ◌∙◌, arith}
-use Rattle.std.proofs.lemmas.List.{append-nil}
-use Rattle.std.proofs.Math.Seq.{take-add}
-use Rattle.std.specs.Prelude.{slice_range}
-use Rattle.seal.specs.Records.{record_of}
-use Rattle.seal.specs.Sealing.{Sealing, Seals}
-use Rattle.sealed.specs.Tunnels.{SealsAll}
-use Rattle.sealed.proofs.Lawful.{seals_on}
+use Rattle.std.proofs.Common.{◌≡◌, ℕ, ◌+◌, ◌-◌, ◌≤◌, List, [], ◌∷◌, ◌++◌, length, take, refl, sym}
+use Rattle.std.proofs.Common.{ap, subst, ◌∙◌, arith}
+use Rattle.std.{proofs.lemmas.List.append-nil, proofs.Math.Seq.take-add, specs.Prelude.slice_range}
+use Rattle.seal.specs.{Records.record_of, Sealing.Sealing, Sealing.Seals}
+use Rattle.sealed.{specs.Tunnels.SealsAll, proofs.Lawful.seals_on}
 
 -- nothing is sealed by nothing
 pub seals_none : (s : Sealing) → SealsAll [] s s []
@@ -34,8 +30,7 @@ seals_one body sent old new h = record {
 
 -- one record more, of the bytes from a place on
 pub seals_more : (bytes sent more : List ℕ) (start end : ℕ) (old mid new : Sealing) → start ≤ end
-    → SealsAll (take start bytes) old mid sent
-    → Seals (slice_range bytes start end) mid new more
+    → SealsAll (take start bytes) old mid sent → Seals (slice_range bytes start end) mid new more
     → SealsAll (take end bytes) old new (sent ++ more)
 seals_more bytes sent more start end old mid new order a b =
     let all = seals_on (take start bytes) (slice_range bytes start end) sent more old mid new a

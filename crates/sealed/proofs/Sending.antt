@@ -1,31 +1,22 @@
 -- What a desk's side sent, from the beginning of a connection on.
-use Rattle.std.proofs.Common.{◌≡◌, ℕ, List, [], ◌++◌}
-use Rattle.std.proofs.Common.{Option, Some, None, refl, sym, ap, subst, ◌∙◌}
+use Rattle.std.proofs.Common.{◌≡◌, ℕ, List, [], ◌++◌, Option, Some, None, refl, sym, ap, subst, ◌∙◌}
 use Rattle.std.specs.Prelude.{IfSome, IsSome, option_map}
-use Rattle.seal.specs.declared.channel.Channel.{Channel}
-use Rattle.seal.specs.Records.{records}
-use Rattle.seal.specs.Sealing.{Sealing}
-use Rattle.sealed.specs.declared.callers.Caller.{Caller}
+use Rattle.seal.specs.{declared.channel.Channel.Channel, Records.records, Sealing.Sealing}
+use Rattle.sealed.specs.declared.callers.{Caller.Caller, Holder.Holder, DeskKeys.DeskKeys}
 use Rattle.sealed.specs.declared.callers.Caller.TheVariants.{Anyone, Visitor}
-use Rattle.sealed.specs.declared.callers.Caller.TheVariants as caller
-use Rattle.sealed.specs.declared.callers.Holder.{Holder}
 use Rattle.sealed.specs.declared.callers.Holder.TheVariants.{Hall, Entry}
-use Rattle.sealed.specs.declared.callers.DeskKeys.{DeskKeys}
-use Rattle.sealed.specs.declared.callers.StreamRefusal.{StreamRefusal}
+use Rattle.sealed.specs.{declared.callers.StreamRefusal.StreamRefusal, Admitting.goes_under}
 use Rattle.sealed.specs.declared.callers.StreamRefusal.TheVariants.{Unsealed, NoMemory}
-use Rattle.sealed.specs.Admitting.{goes_under}
-use Rattle.sealed.specs.Fronts.{IsPrefaced}
+use Rattle.sealed.specs.{Fronts.IsPrefaced, ServerSeals.held_by, Tunnels.SealsAll, Tunnels.TunnelOf}
 use Rattle.sealed.specs.ServerSeals.{ServerSealOf, SendsPlain, Stands, StandsAt, StandsPassing}
 use Rattle.sealed.specs.ServerSeals.{StandsReading, StandsTrying, IsOfLocks, SendsBy, caller_by}
-use Rattle.sealed.specs.ServerSeals.{KeepsCaller, caller_of, held_by}
+use Rattle.sealed.specs.{ServerSeals.KeepsCaller, Sent.SentPlain, Sent.from_start, Sent.key_for}
+use Rattle.sealed.{specs.ServerSeals.caller_of, proofs.Lawful.seals_on, proofs.Sealings.seals_none}
 use Rattle.sealed.specs.Sent.{HasSent, IsNew, IsSent, IsSentSealed, KeepsSent, SealingGoesOn}
 use Rattle.sealed.specs.Sent.{SealingReads, SendsWhatIsGiven, SentAs, SentBy, SentEntry, SentOver}
-use Rattle.sealed.specs.Sent.{SentPlain, from_start, key_for}
-use Rattle.sealed.specs.Trials.{IsSameTrial, ReadsAll, SealsAs, SealsEntry, SealsOver}
-use Rattle.sealed.specs.Trials.{TrialOf, Tries, TriesAs, comes_by, goes_by, sends_by}
-use Rattle.sealed.specs.Tunnels.{SealsAll, TunnelOf}
-use Rattle.sealed.proofs.Lawful.{seals_on}
-use Rattle.sealed.proofs.Sealings.{seals_none}
+use Rattle.sealed.specs.Trials.{IsSameTrial, ReadsAll, SealsAs, SealsEntry, SealsOver, TrialOf}
+use Rattle.sealed.specs.Trials.{Tries, TriesAs, comes_by, goes_by, sends_by}
+use Rattle.sealed.specs.declared.callers.Caller.TheVariants as caller
 
 -- ---- what comes changes nothing of what is sent
 
@@ -170,16 +161,14 @@ reads_on : (t u : TunnelOf) (s x : List ℕ) → u.opener ≡ t.opener → Reads
 reads_on t u s x is h =
     subst (λ o. ReadsAll (record { opener = o; sealer = u.sealer }) s x) (sym is) h
 
-goes_on : (t u : TunnelOf) (bytes sent : List ℕ) → SealsOver bytes t u sent
-    → goes_by u ≡ goes_by t
+goes_on : (t u : TunnelOf) (bytes sent : List ℕ) → SealsOver bytes t u sent → goes_by u ≡ goes_by t
 goes_on t u bytes sent h = ap (λ (s : Sealing). s.channel) h.sealed.counted
 
 hall_reads : (t u : TrialOf) (f : TunnelOf) (bytes sent : List ℕ) → t.holder ≡ Some Hall
     → SealsOver bytes t.hall f sent → u ≡ record t { hall = f } → KeepsReads t u
 hall_reads t u f bytes sent is over same =
     let now : TrialOf = record t { hall = f } in
-    subst (λ (v : TrialOf). KeepsReads t v) (sym same)
-    (record {
+    subst (λ (v : TrialOf). KeepsReads t v) (sym same) (record {
       holder = refl;
       keys = λ locks client server h. record {
         hall = ap (λ o. o.channel) over.opener ∙ h.hall;
@@ -194,8 +183,7 @@ hall_reads t u f bytes sent is over same =
     })
 
 entry_reads : (t u : TrialOf) (e f : TunnelOf) (bytes sent : List ℕ) → t.holder ≡ Some Entry
-    → t.entry ≡ Some e → SealsOver bytes e f sent → u ≡ record t { entry = Some f }
-    → KeepsReads t u
+    → t.entry ≡ Some e → SealsOver bytes e f sent → u ≡ record t { entry = Some f } → KeepsReads t u
 entry_reads t u e f bytes sent is there over same =
     let now : TrialOf = record t { entry = Some f } in
     let comes : option_map comes_by (Some f) ≡ option_map comes_by t.entry =
@@ -204,8 +192,7 @@ entry_reads t u e f bytes sent is there over same =
     let goes : option_map goes_by (Some f) ≡ option_map goes_by t.entry =
     ap (λ (c : Channel). Some c) (goes_on e f bytes sent over)
     ∙ sym (ap (λ (o : Option TunnelOf). option_map goes_by o) there) in
-    subst (λ (v : TrialOf). KeepsReads t v) (sym same)
-    (record {
+    subst (λ (v : TrialOf). KeepsReads t v) (sym same) (record {
       holder = refl;
       keys = λ locks client server h. record {
         hall = h.hall;
@@ -268,12 +255,10 @@ sealing_by : (o : Option TrialOf) (c new : ServerSealOf) (bytes sent came handed
     → c.trial ≡ o → SendsBy o bytes c new sent → Stands c came handed → Stands new came handed
 sealing_by None c new bytes sent came handed is h stands =
     subst (λ (d : ServerSealOf). Stands d came handed)
-    (sym (plain_new c.passing bytes sent c new h))
-    stands
+    (sym (plain_new c.passing bytes sent c new h)) stands
 sealing_by (Some t) c new bytes sent came handed is h stands =
     subst (λ (d : ServerSealOf). Stands d came handed) (sym h.2)
-    (reads_at c.refusal c t h.0 came handed is (reads_by t.holder t h.0 bytes sent refl h.1)
-    stands)
+    (reads_at c.refusal c t h.0 came handed is (reads_by t.holder t h.0 bytes sent refl h.1) stands)
 
 pub sealing_reads : SealingReads
 sealing_reads c new bytes sent came handed h stands =
@@ -342,8 +327,7 @@ sealing_goes_on c new bytes more given sent h some s =
 -- ---- what is sent is what was given
 
 sent_under : (locks : DeskKeys) (server came given sent client stream secret : List ℕ)
-    (key : Holder)
-    (t : TunnelOf) → IsPrefaced came client stream → key_for locks key ≡ Some secret
+    (key : Holder) (t : TunnelOf) → IsPrefaced came client stream → key_for locks key ≡ Some secret
     → goes_by t ≡ goes_under client server secret → SentOver t given sent
     → IsSentSealed locks server came given sent key
 sent_under locks server came given sent client stream secret key t prefaced held goes h = record {
@@ -407,14 +391,9 @@ sent_nobody_as : (o : Option Holder) (t : TrialOf) (given sent : List ℕ)
 sent_nobody_as None t given sent is s = (s.0, s.1)
 sent_nobody_as (Some key) t given sent is s = absurd cc
 
-sent_nobody_plain : (p : Option Caller) (given sent : List ℕ) → p ≡ None → SentPlain p given sent
-    → (given ≡ []) × (sent ≡ [])
-sent_nobody_plain None given sent is s = s
-sent_nobody_plain (Some who) given sent is s = absurd cc
-
 sent_nobody : (o : Option TrialOf) (c : ServerSealOf) (given sent : List ℕ)
     → caller_by o c.passing ≡ None → SentBy o c given sent → (given ≡ []) × (sent ≡ [])
-sent_nobody None c given sent is s = sent_nobody_plain c.passing given sent is s
+sent_nobody None c given sent is s = subst (λ (p : Option Caller). SentPlain p given sent) is s
 sent_nobody (Some t) c given sent is s = sent_nobody_as t.holder t given sent is s
 
 sent_at : (r : Option StreamRefusal) (c : ServerSealOf) (came handed given sent : List ℕ)

@@ -1,26 +1,30 @@
 -- A desk's side of a connection, as more of the stream comes.
-use Rattle.std.proofs.Common.{◌≡◌, ℕ, List, [], ◌++◌, length, drop, true, false}
-use Rattle.std.proofs.Common.{Bool, Option, Some, None, refl, sym, ap, subst, ◌∙◌}
+use Rattle.std.proofs.Common.{◌≡◌, ℕ, List, [], ◌++◌, length, drop, true, false, Bool, Option, Some}
+use Rattle.std.proofs.Common.{None, refl, sym, ap, subst, ◌∙◌}
 use Rattle.std.specs.Prelude.{option_map}
-use Rattle.seal.specs.Records.{preface_of}
-use Rattle.seal.specs.Sealing.{Sealing}
-use Rattle.sealed.specs.declared.callers.Caller.{Caller}
-use Rattle.sealed.specs.declared.callers.Caller.TheVariants.{Visitor}
-use Rattle.sealed.specs.declared.callers.Caller.TheVariants as caller
-use Rattle.sealed.specs.declared.callers.Access.{Access}
-use Rattle.sealed.specs.declared.callers.Access.TheVariants.{Locked}
-use Rattle.sealed.specs.declared.callers.DeskKeys.{DeskKeys}
-use Rattle.sealed.specs.declared.callers.StreamRefusal.{StreamRefusal}
-use Rattle.sealed.specs.declared.callers.StreamRefusal.TheVariants.{Unsealed}
+use Rattle.seal.specs.{Records.preface_of, Sealing.Sealing}
+use Rattle.sealed.specs.declared.callers.Caller.{Caller, TheVariants.Visitor}
+use Rattle.sealed.specs.declared.callers.Access.{Access, TheVariants.Locked}
+use Rattle.sealed.specs.{declared.callers.DeskKeys.DeskKeys, Fronts.IsUnsealed, Tunnels.TunnelOf}
+use Rattle.sealed.specs.declared.callers.StreamRefusal.{StreamRefusal, TheVariants.Unsealed}
 use Rattle.sealed.specs.ServerSeals.{ServerSealOf, IsOfLocks, Stands, StandsAt, StandsPassing}
-use Rattle.sealed.specs.ServerSeals.{StandsReading}
-use Rattle.sealed.specs.ServerSeals.{caller_by}
-use Rattle.sealed.specs.Fronts.{IsUnsealed}
+use Rattle.sealed.specs.ServerSeals.{StandsReading, caller_by}
 use Rattle.sealed.specs.Trials.{IsSameTrial, TrialOf, Tries, goes_by, sends_by}
-use Rattle.sealed.specs.Tunnels.{TunnelOf}
 use Rattle.sealed.specs.model.Steps.{IsHeld, OpensAs, Passes, PassesAs, shows}
-use Rattle.sealed.proofs.Fronting.{held_and_rest, prefaced_first, prefaced_more}
-use Rattle.sealed.proofs.Fronting.{unsealed_more}
+use Rattle.sealed.proofs.Fronting.{held_and_rest, prefaced_first, prefaced_more, unsealed_more}
+use Rattle.sealed.specs.declared.callers.Caller.TheVariants as caller
+
+-- a desk's side with this
+abbrev pub side_of : Access → List ℕ → List ℕ → Option Caller → Option TrialOf
+    → Option StreamRefusal → ServerSealOf
+side_of doors random held passing trial refusal = record {
+  doors = doors;
+  random = random;
+  held = held;
+  passing = passing;
+  trial = trial;
+  refusal = refusal;
+}
 
 -- ---- what a side of this form stands for
 
@@ -141,8 +145,7 @@ stands_tried old new t u came handed piece more o1 n1 o2 n2 doors random same on
 
 -- the first piece of one
 pub stands_opened : (old mid new : ServerSealOf) (came handed piece client more : List ℕ)
-    (added : ℕ)
-    → old.refusal ≡ None → old.trial ≡ None → old.passing ≡ None
+    (added : ℕ) → old.refusal ≡ None → old.trial ≡ None → old.passing ≡ None
     → mid.refusal ≡ None → mid.doors ≡ old.doors
     → IsHeld piece old.held mid.held added → length client ≡ 16 → mid.held ≡ preface_of client
     → OpensAs mid.doors client (drop added piece) mid new more → Stands old came handed

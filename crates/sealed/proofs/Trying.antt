@@ -1,26 +1,19 @@
 -- A trial of two keys, one piece after the other.
-use Rattle.std.proofs.Common.{◌≡◌, ◌≢◌, ℕ, ◌+◌, List, [], ◌∷◌, ◌++◌, length}
-use Rattle.std.proofs.Common.{Option, Some, None, refl, sym, ap, subst, ◌∙◌, append_assoc, arith}
-use Rattle.std.specs.Prelude.{IfSome, IsSome, option_map}
-use Rattle.std.proofs.lemmas.List.{length-append}
-use Rattle.seal.specs.declared.channel.Channel.{Channel}
-use Rattle.seal.specs.declared.fault.StreamFault.{StreamFault}
+use Rattle.std.proofs.Common.{◌≡◌, ◌≢◌, ℕ, ◌+◌, List, [], ◌∷◌, ◌++◌, length, Option, Some, None}
+use Rattle.std.proofs.Common.{refl, sym, ap, subst, ◌∙◌, append_assoc, arith}
+use Rattle.std.{specs.Prelude.IfSome, proofs.lemmas.List.length-append}
+use Rattle.seal.specs.declared.{channel.Channel.Channel, fault.StreamFault.StreamFault}
 use Rattle.seal.specs.Records.{AreBodies, record_of, records}
 use Rattle.seal.specs.Streams.{BeginsRecord, Ends, Fed, FedAt, Opening, Reads, Waits, joined}
-use Rattle.seal.proofs.Ending.{not_begun}
-use Rattle.seal.proofs.Feeding.{reads_fed}
-use Rattle.seal.proofs.Reading.{reads_after}
-use Rattle.sealed.specs.declared.callers.Holder.{Holder}
-use Rattle.sealed.specs.declared.callers.Holder.TheVariants.{Hall, Entry}
-use Rattle.sealed.specs.Trials.{IsSameTrial, ReadsAll, TrialOf, Tries, TriesAs, comes_by}
-use Rattle.sealed.specs.Trials.{sends_by}
+use Rattle.seal.proofs.{Ending.not_begun, Feeding.reads_fed, Reading.reads_after}
+use Rattle.sealed.specs.declared.callers.Holder.{Holder, TheVariants.Hall, TheVariants.Entry}
+use Rattle.sealed.specs.Trials.{ReadsAll, TrialOf, Tries, TriesAs}
 use Rattle.sealed.specs.Tunnels.{TunnelOf}
 
 -- ---- one connection
 
 fed_same_at : (f : Option StreamFault) (piece more : List ℕ) (a b : Opening)
-    → FedAt f piece a b more
-    → b.channel ≡ a.channel
+    → FedAt f piece a b more → b.channel ≡ a.channel
 fed_same_at None piece more a b fed = fed.channel_kept
 fed_same_at (Some e) piece more a b fed = ap (λ (o : Opening). o.channel) fed.1
 
@@ -175,16 +168,3 @@ chooses_entry old new e f s x piece none more was is there now fed empty fed1 so
     subst (λ (h : Option Holder). TriesAs h (s ++ piece) (x ++ more) new) (sym is)
     (subst P (sym q.0)
     (f, now, some, entry, hall, decided new.hall f (s ++ piece) more hall entry some))
-
--- ---- the keys stay
-
-pub same_hall : (old new : TrialOf) (piece more : List ℕ) → new.entry ≡ old.entry
-    → new.hall.sealer ≡ old.hall.sealer → (IsSome old.holder → new.holder ≡ old.holder)
-    → Fed piece old.hall.opener new.hall.opener more → IsSameTrial old new
-same_hall old new piece more entry sealer stays fed = record {
-  hall = fed_same piece more old.hall.opener new.hall.opener fed;
-  entry = ap (λ (o : Option TunnelOf). option_map comes_by o) entry;
-  hall_sends = sealer;
-  entry_sends = ap (λ (o : Option TunnelOf). option_map sends_by o) entry;
-  stays = stays;
-}

@@ -1,10 +1,8 @@
 -- The side of the caller of a desk: what it keeps, and what it has read (the project's own).
 use Rattle.std.specs.Prelude.{◌≡◌, ℕ, Bool, true, false, List, [], ◌++◌, Option, None, Some}
 use Rattle.seal.specs.declared.channel.Direction.TheVariants.{ToClient, ToServer}
-use Rattle.seal.specs.declared.fault.StreamFault.{StreamFault}
-use Rattle.seal.specs.declared.fault.SealFault.{SealFault}
-use Rattle.seal.specs.Records.{key_of}
-use Rattle.seal.specs.Sealing.{Sealing}
+use Rattle.seal.specs.declared.fault.{StreamFault.StreamFault, SealFault.SealFault}
+use Rattle.seal.specs.{Records.key_of, Sealing.Sealing}
 use Rattle.sealed.specs.declared.client_seal.SealTrouble.{SealTrouble}
 use Rattle.sealed.specs.declared.client_seal.SealTrouble.TheVariants.{NoKey, OtherKey}
 use Rattle.sealed.specs.Fronts.{IsPrefaced, IsShort, IsUnsealed}

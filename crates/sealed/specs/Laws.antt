@@ -1,17 +1,13 @@
 -- Laws of the two sides of a connection (the project's own).
 use Rattle.std.specs.Prelude.{◌≡◌, ◌≢◌, ◌⊎◌, ℕ, List, [], ◌++◌, Some, length}
 use Rattle.seal.specs.Records.{AreBodies, preface_of, records}
-use Rattle.seal.specs.Sealing.{Sealing}
-use Rattle.seal.specs.Streams.{joined}
-use Rattle.sealed.specs.declared.callers.Caller.TheVariants as caller
-use Rattle.sealed.specs.declared.callers.Access.TheVariants.{Locked}
-use Rattle.sealed.specs.declared.callers.Holder.TheVariants.{Hall}
-use Rattle.sealed.specs.declared.callers.DeskKeys.{DeskKeys}
-use Rattle.sealed.specs.Admitting.{Admits, comes_under}
+use Rattle.seal.specs.{Sealing.Sealing, Streams.joined}
+use Rattle.sealed.specs.declared.callers.{Access.TheVariants.Locked, Holder.TheVariants.Hall}
+use Rattle.sealed.specs.{declared.callers.DeskKeys.DeskKeys, Admitting.Admits, Tunnels.SealsAll}
+use Rattle.sealed.specs.{Admitting.comes_under, ClientSeals.ClientSealOf, ClientSeals.IsOpened}
 use Rattle.sealed.specs.ServerSeals.{ServerSealOf, Stands, caller_of}
-use Rattle.sealed.specs.ClientSeals.{ClientSealOf, IsOpened}
+use Rattle.sealed.specs.declared.callers.Caller.TheVariants as caller
 use Rattle.sealed.specs.ClientSeals as Callings
-use Rattle.sealed.specs.Tunnels.{SealsAll}
 
 -- a desk's side that has read these bytes, and handed on those, has admitted this caller
 abbrev pub StandsAdmits : Type 0
@@ -27,8 +23,7 @@ StandsOpens = (c : ClientSealOf) (came handed : List ℕ) → Callings.Stands c 
 abbrev pub HolderIsAdmitted : Type 0
 HolderIsAdmitted =
     (locks : DeskKeys) (client server : List ℕ) (bodies : List (List ℕ)) → length client ≡ 16
-    → AreBodies 0 bodies → joined bodies ≢ []
-    → Admits (Locked locks) server
+    → AreBodies 0 bodies → joined bodies ≢ [] → Admits (Locked locks) server
     (preface_of client ++ records (comes_under client server locks.hall) 0 bodies) (joined bodies)
     (Some (caller.Holder Hall))
 

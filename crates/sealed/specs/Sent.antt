@@ -1,21 +1,13 @@
 -- What a desk's side sent of what it was given (the project's own).
 use Rattle.std.specs.Prelude.{◌≡◌, ℕ, List, [], ◌++◌, Option, None, Some, IfSome, IsSome}
-use Rattle.seal.specs.Records.{AreBodies, records}
-use Rattle.seal.specs.Sealing.{Sealing}
-use Rattle.seal.specs.Streams.{joined}
-use Rattle.sealed.specs.declared.callers.Caller.{Caller}
-use Rattle.sealed.specs.declared.callers.Caller.TheVariants.{Anyone, Visitor}
-use Rattle.sealed.specs.declared.callers.Caller.TheVariants as caller
-use Rattle.sealed.specs.declared.callers.Access.{Access}
-use Rattle.sealed.specs.declared.callers.Access.TheVariants.{Locked}
-use Rattle.sealed.specs.declared.callers.Holder.{Holder}
-use Rattle.sealed.specs.declared.callers.Holder.TheVariants.{Hall, Entry}
-use Rattle.sealed.specs.declared.callers.DeskKeys.{DeskKeys}
-use Rattle.sealed.specs.Admitting.{goes_under}
+use Rattle.seal.specs.{Records.AreBodies, Records.records, Sealing.Sealing, Streams.joined}
+use Rattle.sealed.specs.declared.callers.Caller.{Caller, TheVariants.Anyone, TheVariants.Visitor}
+use Rattle.sealed.specs.declared.callers.Access.{Access, TheVariants.Locked}
+use Rattle.sealed.specs.declared.callers.Holder.{Holder, TheVariants.Hall, TheVariants.Entry}
+use Rattle.sealed.specs.{declared.callers.DeskKeys.DeskKeys, Tunnels.SealsAll, Tunnels.TunnelOf}
+use Rattle.sealed.specs.{Admitting.goes_under, Fronts.IsPrefaced, Trials.TrialOf}
 use Rattle.sealed.specs.ServerSeals.{ServerSealOf, Sends, Stands, caller_of}
-use Rattle.sealed.specs.Fronts.{IsPrefaced}
-use Rattle.sealed.specs.Trials.{TrialOf}
-use Rattle.sealed.specs.Tunnels.{SealsAll, TunnelOf}
+use Rattle.sealed.specs.declared.callers.Caller.TheVariants as caller
 
 -- ---- what was sent, by its bytes alone
 

@@ -1,21 +1,16 @@
 -- A desk's side of a connection: what it keeps, and what it has read (the project's own).
-use Rattle.std.specs.Prelude.{◌≡◌, ℕ, Bool, true, false, List, [], ◌∷◌, ◌++◌, Option, None}
-use Rattle.std.specs.Prelude.{Some, IsSome, option_map}
-use Rattle.seal.specs.declared.fault.SealFault.{SealFault}
-use Rattle.seal.specs.declared.fault.SealFault.TheVariants.{NoMemory as Starved}
-use Rattle.sealed.specs.declared.callers.Caller.{Caller}
+use Rattle.std.specs.Prelude.{◌≡◌, ℕ, Bool, true, false, List, [], ◌∷◌, ◌++◌, Option, None, Some}
+use Rattle.std.specs.Prelude.{IsSome, option_map}
+use Rattle.seal.specs.declared.fault.SealFault.{SealFault, TheVariants.NoMemory as Starved}
+use Rattle.sealed.specs.declared.callers.{Caller.Caller, Access.Access, Holder.Holder}
 use Rattle.sealed.specs.declared.callers.Caller.TheVariants.{Anyone, Visitor}
-use Rattle.sealed.specs.declared.callers.Caller.TheVariants as caller
-use Rattle.sealed.specs.declared.callers.Access.{Access}
 use Rattle.sealed.specs.declared.callers.Access.TheVariants.{Open, Locked}
-use Rattle.sealed.specs.declared.callers.Holder.{Holder}
-use Rattle.sealed.specs.declared.callers.DeskKeys.{DeskKeys}
-use Rattle.sealed.specs.declared.callers.StreamRefusal.{StreamRefusal}
+use Rattle.sealed.specs.declared.callers.{DeskKeys.DeskKeys, StreamRefusal.StreamRefusal}
 use Rattle.sealed.specs.declared.callers.StreamRefusal.TheVariants.{Unsealed, NoMemory}
-use Rattle.sealed.specs.Admitting.{comes_under, goes_under}
+use Rattle.sealed.specs.{Admitting.comes_under, Admitting.goes_under, Trials.begun_in, Trials.over}
 use Rattle.sealed.specs.Fronts.{IsPrefaced, IsShort, IsUnsealed}
 use Rattle.sealed.specs.Trials.{FailsFor, SealsFor, TrialOf, Tries, comes_by, entry_by, goes_by}
-use Rattle.sealed.specs.Trials.{begun_in, over}
+use Rattle.sealed.specs.declared.callers.Caller.TheVariants as caller
 
 -- what the desk asks for, its random bytes, the bytes that are held until it is known what the
 -- stream is, who is let pass without a key, the keys that a sealed stream is tried with, and why
@@ -96,8 +91,7 @@ pub record IsOfLocks (locks : DeskKeys) (client server : List ℕ) (t : TrialOf)
   pub hall : comes_by t.hall ≡ comes_under client server locks.hall
   pub entry : entry_by t ≡ option_map (comes_under client server) locks.entry
   pub hall_sends : goes_by t.hall ≡ goes_under client server locks.hall
-  pub entry_sends : option_map goes_by t.entry
-      ≡ option_map (goes_under client server) locks.entry
+  pub entry_sends : option_map goes_by t.entry ≡ option_map (goes_under client server) locks.entry
 
 -- it is known that the stream is sealed
 pub record StandsTrying (c : ServerSealOf) (t : TrialOf) (came handed : List ℕ) : Type 0 where

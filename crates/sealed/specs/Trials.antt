@@ -1,17 +1,12 @@
 -- A sealed stream at a desk that has one key or two (the project's own).
-use Rattle.std.specs.Prelude.{◌≡◌, ◌≢◌, ℕ, ◌&&◌, Bool, true, false, List, []}
-use Rattle.std.specs.Prelude.{Option, None, Some, IfSome, IsSome, option_map}
-use Rattle.std.specs.Option.{option_or}
-use Rattle.seal.specs.declared.channel.Channel.{Channel}
-use Rattle.seal.specs.declared.channel.Direction.TheVariants.{ToServer}
-use Rattle.seal.specs.declared.fault.StreamFault.{StreamFault}
-use Rattle.seal.specs.declared.fault.SealFault.{SealFault}
-use Rattle.seal.specs.Records.{key_of}
-use Rattle.seal.specs.Sealing.{Sealing}
+use Rattle.std.specs.Prelude.{◌≡◌, ◌≢◌, ℕ, ◌&&◌, Bool, true, false, List, [], Option, None, Some}
+use Rattle.std.specs.{Prelude.IfSome, Prelude.IsSome, Prelude.option_map, Option.option_or}
+use Rattle.seal.specs.declared.channel.{Channel.Channel, Direction.TheVariants.ToServer}
+use Rattle.seal.specs.declared.fault.{StreamFault.StreamFault, SealFault.SealFault}
+use Rattle.seal.specs.{Records.key_of, Sealing.Sealing}
 use Rattle.seal.specs.Streams.{HandsOn, Reads, begun}
-use Rattle.sealed.specs.declared.callers.Holder.{Holder}
+use Rattle.sealed.specs.declared.callers.{Holder.Holder, DeskKeys.DeskKeys}
 use Rattle.sealed.specs.declared.callers.Holder.TheVariants.{Hall, Entry}
-use Rattle.sealed.specs.declared.callers.DeskKeys.{DeskKeys}
 use Rattle.sealed.specs.Tunnels.{FailsAll, SealsAll, TunnelOf, fresh_tunnel}
 
 -- ---- what is handed on of a stream, by its bytes alone

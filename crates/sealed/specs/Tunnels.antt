@@ -1,13 +1,10 @@
 -- A sealed connection under one key (the project's own).
 use Rattle.std.specs.Prelude.{◌≡◌, ℕ, ◌+◌, ◌-◌, ◌*◌, ◌^◌, ◌<◌, ◌≤◌, List, [], length, None}
-use Rattle.seal.specs.declared.fault.SealFault.{SealFault}
+use Rattle.seal.specs.{declared.fault.SealFault.SealFault, Sealing.Sealing}
 use Rattle.seal.specs.declared.fault.SealFault.TheVariants.{BadLength, NoNumber, NoMemory}
-use Rattle.seal.specs.declared.channel.Channel.{Channel}
-use Rattle.seal.specs.declared.channel.Direction.{Direction}
+use Rattle.seal.specs.declared.channel.{Channel.Channel, Direction.Direction}
 use Rattle.seal.specs.declared.channel.Direction.TheVariants.{ToServer, ToClient}
-use Rattle.seal.specs.Records.{AreBodies, records}
-use Rattle.seal.specs.Sealing.{Sealing}
-use Rattle.seal.specs.Streams.{Opening, joined}
+use Rattle.seal.specs.{Records.AreBodies, Records.records, Streams.Opening, Streams.joined}
 
 -- the other direction
 abbrev pub opposite : Direction → Direction

@@ -2,9 +2,8 @@
 
 ghost use Rattle.std.specs.Prelude.{◌≡◌, ◌↔◌, false, IfErr, IfOk, IsSome, IsTrue, None};
 ghost use Rattle.seal.specs.Records.{preface_of};
-ghost use Rattle.sealed.specs.ClientSeals.{FailsTo, IsSameCaller, Receives, SendsTo};
-ghost use Rattle.sealed.specs.ClientSeals.{fresh_client_seal, trouble_of};
-ghost use Rattle.sealed.specs.model.Opening.{OpensTo};
+ghost use Rattle.sealed.specs.ClientSeals.{FailsTo, IsSameCaller, Receives, SendsTo, trouble_of};
+ghost use Rattle.sealed.specs.{ClientSeals.fresh_client_seal, model.Opening.OpensTo};
 
 use crate::front::{PREFACE, StreamFront, front_of, hold};
 use crate::tunnel::Tunnel;

@@ -3,10 +3,8 @@
 ghost use Rattle.std.specs.Prelude.{◌≡◌, ◌≢◌, [], None, Some, IfErr, IfOk, IsSome, OnErr, OnOk};
 ghost use Rattle.seal.specs.Records.{preface_of};
 ghost use Rattle.sealed.specs.ServerSeals.{Fails, IsSameDesk, KeepsCaller, Receives, Sends};
-ghost use Rattle.sealed.specs.ServerSeals.{caller_of};
-ghost use Rattle.sealed.specs.ServerSeals.{begun, first_passing, fresh_server_seal, is_over};
-ghost use Rattle.sealed.specs.ServerSeals.{is_sealed};
-ghost use Rattle.sealed.specs.Sent.{KeepsSent};
+ghost use Rattle.sealed.specs.ServerSeals.{caller_of, begun, first_passing, fresh_server_seal};
+ghost use Rattle.sealed.specs.{ServerSeals.is_over, ServerSeals.is_sealed, Sent.KeepsSent};
 ghost use Rattle.sealed.specs.model.Steps.{OpensAfter, Passes};
 ghost use Rattle.sealed.specs.declared.callers.StreamRefusal.TheVariants.{NoMemory as Starved};
 

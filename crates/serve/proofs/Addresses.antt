@@ -1,11 +1,9 @@
 -- The first address that is found for a text, and those that are found for several.
 use Rattle.std.proofs.Common.{◌≡◌, ◌<◌, ◌+◌, ℕ, zero, suc, List, [], ◌∷◌, ◌++◌, Option, None, Some}
 use Rattle.std.proofs.Common.{subst, sym, ap, ◌∙◌, take, map, length, arith, Bor, get_or, add-one}
-use Rattle.std.proofs.Math.Seq.{take-suc}
-use Rattle.std.proofs.lemmas.List.{map-append}
+use Rattle.std.proofs.{Math.Seq.take-suc, lemmas.List.map-append}
 use Rattle.std.specs.Prelude.{IsSomeAnd, MatchOption}
-use Rattle.std.specs.Net.Grammar.{IsSocketText}
-use Rattle.std.specs.declared.net.socket_addr.SocketAddr.{SocketAddr}
+use Rattle.std.specs.{Net.Grammar.IsSocketText, declared.net.socket_addr.SocketAddr.SocketAddr}
 use Rattle.serve.specs.Addresses.{AreFoundFor, IsFoundFor}
 
 one_comes : {A X : Type 0} (n : ℕ) (items : List A) (a : A) → take n items ≡ a ∷ []
@@ -21,8 +19,7 @@ first_is (suc n) [] rest a x one first = absurd (cc first)
 first_is (suc n) (y ∷ ys) rest a x one first = cc (one, first)
 
 pub found_first : (X : Type 0) (text : List ℕ) (n m : ℕ) (items rest : List SocketAddr)
-    (r : Option SocketAddr)
-    → (b : SocketAddr) × (take n items ≡ b ∷ []) × IsSocketText text b
+    (r : Option SocketAddr) → (b : SocketAddr) × (take n items ≡ b ∷ []) × IsSocketText text b
     → MatchOption r (0 < n → (length items ≡ 0) × X) (λ x. (items ≡ x ∷ rest) × (m + 1 ≡ n))
     → IsSomeAnd r (IsSocketText text)
 found_first X text n m items rest None h none = absurd (one_comes n items h.0 h.1 none)
@@ -35,8 +32,7 @@ pub found_next : (texts : List (List ℕ)) (founds : List (Option SocketAddr)) (
 found_next [] [] text found all one = (one, tt)
 found_next [] (f ∷ fs) text found all one = elim all [ ]
 found_next (t ∷ ts) [] text found all one = elim all [ ]
-found_next (t ∷ ts) (f ∷ fs) text found all one =
-    (all.0, found_next ts fs text found all.1 one)
+found_next (t ∷ ts) (f ∷ fs) text found all one = (all.0, found_next ts fs text found all.1 one)
 
 pub found_step : (texts : List (Bor (List ℕ))) (i : ℕ) (d : Bor (List ℕ))
     (founds : List (Option SocketAddr)) (found : Option SocketAddr) → i < length texts

@@ -1,18 +1,16 @@
 -- A desk that serves, from its first line to its last.
-use Rattle.std.proofs.Common.{◌≡◌, inl, inr, sym, ap, ap₂, subst, ◌∙◌, ℕ, List, ◌++◌}
-use Rattle.std.proofs.Common.{append_assoc, Bool, Option, Result, OnOk, IfErr}
-use Rattle.std.specs.Io.KnownBytes.{Appends}
-use Rattle.std.proofs.KnownBytes.{Appends-trans}
+use Rattle.std.proofs.Common.{◌≡◌, inl, inr, sym, ap, ap₂, subst, ◌∙◌, ℕ, List, ◌++◌, append_assoc}
+use Rattle.std.proofs.Common.{Bool, Option, Result, OnOk, IfErr}
+use Rattle.std.{specs.Io.KnownBytes.Appends, proofs.KnownBytes.Appends-trans}
 use Rattle.lines.specs.Bytes.{AppendsPart}
-use Rattle.multiplex.specs.declared.ends.ServingEnd.{ServingEnd}
-use Rattle.multiplex.specs.declared.ends.ServingEnd.TheVariants as over
-use Rattle.multiplex.specs.declared.ends.ServingsOutcome.{ServingsOutcome}
+use Rattle.multiplex.specs.declared.ends.{ServingEnd.ServingEnd, ServingsOutcome.ServingsOutcome}
 use Rattle.serving.specs.Making.{Way}
 use Rattle.connections.specs.Connections.{Point}
 use Rattle.store.specs.declared.home.Home.{Home}
 use Rattle.serve.specs.Printing.{IsOfLine, first_line, last_line, both_lines}
 use Rattle.serve.specs.Serves.{FailsServing, HasServed, Serves, Turn, ends_by, served_to}
 use Rattle.serve.specs.declared.fault.ServeFault.{ServeFault}
+use Rattle.multiplex.specs.declared.ends.ServingEnd.TheVariants as over
 
 pub append_part : (a b c : Option (List ℕ)) (xs ys : List ℕ) → Appends a b xs → AppendsPart b c ys
     → AppendsPart a c (xs ++ ys)

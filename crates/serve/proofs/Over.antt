@@ -1,28 +1,23 @@
 -- The desk over its file, and what was printed.
-use Rattle.std.proofs.Common.{◌≡◌, ◌⊎◌, inl, inr, sym, ap, subst, ◌∙◌, ℕ, ◌≤◌, List, ◌++◌}
-use Rattle.std.proofs.Common.{append_assoc, append-nil, [], Option, None, Some, IfSome}
-use Rattle.std.proofs.Common.{Result, OnOk, IfErr, arith}
+use Rattle.std.proofs.Common.{◌≡◌, ◌⊎◌, inl, inr, sym, ap, subst, ◌∙◌, ℕ, ◌≤◌, List, ◌++◌, OnOk}
+use Rattle.std.proofs.Common.{append_assoc, append-nil, [], Option, None, Some, IfSome, Result}
+use Rattle.std.{proofs.Common.IfErr, proofs.Common.arith, specs.Io.KnownBytes.Keeps}
 use Rattle.std.proofs.lemmas.Result.{IfErr-weaker, on_ok_weaker}
-use Rattle.std.specs.Io.KnownBytes.{Keeps}
 use Rattle.lines.specs.Bytes.{AppendsPart}
 use Rattle.multiplex.proofs.Coming.{few_come}
-use Rattle.multiplex.specs.declared.ends.ServingEnd.{ServingEnd}
-use Rattle.multiplex.specs.declared.ends.ServingsOutcome.{ServingsOutcome}
+use Rattle.multiplex.specs.declared.ends.{ServingEnd.ServingEnd, ServingsOutcome.ServingsOutcome}
 use Rattle.serving.specs.Making.{Way}
 use Rattle.connections.specs.Connections.{Point}
 use Rattle.sealed.specs.declared.callers.Access.{Access}
 use Rattle.store.specs.declared.home.Home.{Home}
-use Rattle.serve.specs.Keys.{IsOfKeys}
+use Rattle.serve.specs.{Keys.IsOfKeys, declared.fault.ServeFault.ServeFault}
 use Rattle.serve.specs.Printing.{Hinders, IsAllowed, IsFew, IsOfListener, IsOfOpening, IsOfStore}
-use Rattle.serve.specs.Printing.{IsRefused}
-use Rattle.serve.specs.Printing.{Output}
-use Rattle.serve.specs.Printing.{Prints, PrintsAt, PrintsPart, both_lines, first_line, home_of}
-use Rattle.serve.specs.Printing.{last_line}
+use Rattle.serve.specs.Printing.{IsRefused, Output, Prints, PrintsAt, PrintsPart, both_lines}
+use Rattle.serve.specs.Printing.{first_line, home_of, last_line}
 use Rattle.serve.specs.Serves.{FailsServing, HasServed, IsCutOff, Serves, ServesTo, most_of}
 use Rattle.serve.specs.Serves.{period_of, served_to, terms_of, turn_of, with_clients}
-use Rattle.serve.specs.declared.fault.ServeFault.{ServeFault}
-use Rattle.serve.specs.declared.fault.ServeFault.TheVariants as fault
 use Rattle.hall_file.specs.declared.service.Service.{Service}
+use Rattle.serve.specs.declared.fault.ServeFault.TheVariants as fault
 
 few_of : (s : Service) (count : ℕ) → count ≤ most_of s.connections → IsFew count s
 few_of s count few = by s.connections few
@@ -32,18 +27,15 @@ few_of s count few = by s.connections few
     by (Some m) few = few
 
 few_served : {V : Type 0} {way : Way V} (s : Service) (d : Access) (len : ℕ)
-    (o : Output) (a b : Point way)
-    (served : ServingsOutcome)
-    → HasServed served (turn_of s d (home_of s) len o) a b
-    → IsFew served.connections s
+    (o : Output) (a b : Point way) (served : ServingsOutcome)
+    → HasServed served (turn_of s d (home_of s) len o) a b → IsFew served.connections s
 few_served s d len o a b served h =
     few_of s served.connections
     (few_come served (home_of s) (terms_of s d) (period_of s.tick) (with_clients h.0 a)
     (with_clients h.1 b) None None h.2 h.3)
 
 prints_to : {V : Type 0} {way : Way V} (s : Service) (d : Access) (len : ℕ)
-    (o : Output) (a b : Point way)
-    (e : ServingEnd)
+    (o : Output) (a b : Point way) (e : ServingEnd)
     → IsAllowed s → ServesTo e (turn_of s d (home_of s) len o) a b → Prints s o
 prints_to s d len o a b e allowed h = record {
   allowed = allowed;
@@ -97,18 +89,13 @@ part_of s o h = record {
   written = (
     both_lines (home_of s) h.len h.count,
     [],
-    record {
-      parts = sym (append-nil (both_lines (home_of s) h.len h.count));
-      written = h.written;
-    },
+    record { parts = sym (append-nil (both_lines (home_of s) h.len h.count)); written = h.written },
   );
 }
 
 pub prints_at : {V : Type 0} {way : Way V} (f : ServeFault) (s : Service) (d : Access) (len : ℕ)
-    (o : Output)
-    (a b : Point way)
-    → IsAllowed s → FailsServing f (turn_of s d (home_of s) len o) a b
-    → PrintsAt f s o
+    (o : Output) (a b : Point way)
+    → IsAllowed s → FailsServing f (turn_of s d (home_of s) len o) a b → PrintsAt f s o
 prints_at fault.Down s d len o a b allowed h = prints_to s d len o a b _ allowed h
 prints_at fault.CannotListen s d len o a b allowed (inl h) =
     inr (prints_to s d len o a b _ allowed h)
@@ -138,73 +125,27 @@ hindered fault.Down s o h k = absurd h
 hindered fault.CannotListen s o h k = inl (h, k)
 hindered fault.Write s o h k = absurd h
 hindered fault.NoMemory s o h k = inl (h, k)
-hindered fault.BadCount s o h k = (h, k)
-hindered fault.BadDesk s o h k = (h, k)
-hindered fault.WrongDesk s o h k = (h, k)
-hindered fault.Damaged s o h k = (h, k)
-hindered fault.Device s o h k = (h, k)
-hindered fault.SameAddresses s o h k = (h, k)
-hindered fault.NoStore s o h k = (h, k)
-hindered fault.StoreThere s o h k = (h, k)
-hindered (fault.UnknownHost desk) s o h k = (h, k)
-hindered fault.NoHallKey s o h k = (h, k)
-hindered (fault.KeyFile e) s o h k = (h, k)
-hindered fault.SameKeys s o h k = (h, k)
+hindered _ s o h k = (h, k)
 
 pub by_name : (f : ServeFault) (s : Service) → IsRefused f s → Hinders f s
 by_name fault.BadCount s h = h
 by_name fault.BadDesk s h = h
 by_name fault.SameAddresses s h = h
 by_name fault.NoHallKey s h = h
-by_name (fault.KeyFile e) s h = absurd h
-by_name fault.SameKeys s h = absurd h
-by_name fault.NoStore s h = absurd h
-by_name fault.StoreThere s h = absurd h
-by_name (fault.UnknownHost desk) s h = absurd h
-by_name fault.WrongDesk s h = absurd h
-by_name fault.Damaged s h = absurd h
-by_name fault.Device s h = absurd h
-by_name fault.CannotListen s h = absurd h
-by_name fault.Down s h = absurd h
-by_name fault.Write s h = absurd h
-by_name fault.NoMemory s h = absurd h
+by_name _ s h = absurd h
 
 pub by_store : (f : ServeFault) (s : Service) → IsOfStore f → IsAllowed s → Hinders f s
 by_store fault.WrongDesk s h allowed = allowed
 by_store fault.Damaged s h allowed = allowed
 by_store fault.Device s h allowed = allowed
 by_store fault.NoMemory s h allowed = allowed
-by_store fault.BadCount s h allowed = absurd h
-by_store fault.BadDesk s h allowed = absurd h
-by_store fault.CannotListen s h allowed = absurd h
-by_store fault.Down s h allowed = absurd h
-by_store fault.Write s h allowed = absurd h
-by_store fault.SameAddresses s h allowed = absurd h
-by_store fault.NoStore s h allowed = absurd h
-by_store fault.StoreThere s h allowed = absurd h
-by_store (fault.UnknownHost desk) s h allowed = absurd h
-by_store fault.NoHallKey s h allowed = absurd h
-by_store (fault.KeyFile e) s h allowed = absurd h
-by_store fault.SameKeys s h allowed = absurd h
+by_store _ s h allowed = absurd h
 
 -- the keys
 pub by_keys : (f : ServeFault) (s : Service) → IsOfKeys f s → IsAllowed s → Hinders f s
 by_keys (fault.KeyFile e) s h allowed = (allowed, h)
 by_keys fault.SameKeys s h allowed = (allowed, h)
-by_keys fault.NoHallKey s h allowed = absurd h
-by_keys (fault.UnknownHost desk) s h allowed = absurd h
-by_keys fault.BadCount s h allowed = absurd h
-by_keys fault.BadDesk s h allowed = absurd h
-by_keys fault.SameAddresses s h allowed = absurd h
-by_keys fault.NoStore s h allowed = absurd h
-by_keys fault.StoreThere s h allowed = absurd h
-by_keys fault.WrongDesk s h allowed = absurd h
-by_keys fault.Damaged s h allowed = absurd h
-by_keys fault.Device s h allowed = absurd h
-by_keys fault.CannotListen s h allowed = absurd h
-by_keys fault.Down s h allowed = absurd h
-by_keys fault.Write s h allowed = absurd h
-by_keys fault.NoMemory s h allowed = absurd h
+by_keys _ s h allowed = absurd h
 
 pub by_opening : (f : ServeFault) (s : Service) → IsOfOpening f s → IsAllowed s → Hinders f s
 by_opening fault.NoStore s h allowed = (allowed, h)
@@ -214,15 +155,8 @@ by_opening fault.WrongDesk s h allowed = allowed
 by_opening fault.Damaged s h allowed = allowed
 by_opening fault.Device s h allowed = allowed
 by_opening fault.NoMemory s h allowed = allowed
-by_opening fault.BadCount s h allowed = absurd h
-by_opening fault.BadDesk s h allowed = absurd h
-by_opening fault.SameAddresses s h allowed = absurd h
 by_opening fault.CannotListen s h allowed = allowed
-by_opening fault.Down s h allowed = absurd h
-by_opening fault.Write s h allowed = absurd h
-by_opening fault.NoHallKey s h allowed = absurd h
-by_opening (fault.KeyFile e) s h allowed = absurd h
-by_opening fault.SameKeys s h allowed = absurd h
+by_opening _ s h allowed = absurd h
 
 pub by_listener : (f : ServeFault) (s : Service) → IsOfListener f → IsAllowed s → Hinders f s
 by_listener f s (inl is) allowed = subst (λ (f : ServeFault). Hinders f s) (sym is) allowed
@@ -231,8 +165,7 @@ by_listener f s (inr is) allowed = subst (λ (f : ServeFault). Hinders f s) (sym
 -- ---- the desk that was opened is the one that was asked for
 
 pub printed : {V : Type 0} {way : Way V} (s : Service) (d : Access) (home : Home)
-    (len : ℕ) (o : Output)
-    (a b : Point way) (r : Result (Unit {0}) ServeFault)
+    (len : ℕ) (o : Output) (a b : Point way) (r : Result (Unit {0}) ServeFault)
     → home ≡ home_of s → IsAllowed s
     → OnOk r (Serves (turn_of s d home len o) a b) → OnOk r (Prints s o)
 printed s d home len o a b r is allowed h =
@@ -240,21 +173,16 @@ printed s d home len o a b r is allowed h =
     (subst (λ (p : Home). Serves (turn_of s d p len o) a b) is served)) h
 
 ends_printed : {V : Type 0} {way : Way V} (s : Service) (d : Access) (len : ℕ)
-    (o : Output) (a b : Point way)
-    (f : ServeFault) → IsAllowed s
-    → (IsOfListener f × Keeps o.old o.new)
-    ⊎ FailsServing f (turn_of s d (home_of s) len o) a b
+    (o : Output) (a b : Point way) (f : ServeFault) → IsAllowed s
+    → (IsOfListener f × Keeps o.old o.new) ⊎ FailsServing f (turn_of s d (home_of s) len o) a b
     → PrintsAt f s o
 ends_printed s d len o a b f allowed (inl e) = hindered f s o (by_listener f s e.0 allowed) e.1
 ends_printed s d len o a b f allowed (inr e) = prints_at f s d len o a b allowed e
 
-pub printed_fault : {V : Type 0} {way : Way V} (s : Service) (d : Access) (home : Home)
-    (len : ℕ)
+pub printed_fault : {V : Type 0} {way : Way V} (s : Service) (d : Access) (home : Home) (len : ℕ)
     (o : Output) (a b : Point way) (r : Result (Unit {0}) ServeFault)
-    → home ≡ home_of s → IsAllowed s
-    → IfErr r (λ f. (IsOfListener f × Keeps o.old o.new)
-    ⊎ FailsServing f (turn_of s d home len o) a b)
-    → IfErr r (λ f. PrintsAt f s o)
+    → home ≡ home_of s → IsAllowed s → IfErr r (λ f. (IsOfListener f × Keeps o.old o.new)
+    ⊎ FailsServing f (turn_of s d home len o) a b) → IfErr r (λ f. PrintsAt f s o)
 printed_fault s d home len o a b r is allowed h =
     IfErr-weaker r _ _ (λ f ends. ends_printed s d len o a b f allowed
     (subst (λ (p : Home). (IsOfListener f × Keeps o.old o.new)

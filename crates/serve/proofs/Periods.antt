@@ -1,9 +1,7 @@
 -- The period of a desk's own Ticks, where the number that is asked for is a period.
-use Rattle.std.proofs.Common.{◌≡◌, ◌≤◌, ℕ, Option, None, Some, Bool, true, false, refl, ap}
-use Rattle.std.proofs.Common.{arith}
-use Rattle.std.specs.Option.{SomeIff}
+use Rattle.std.proofs.Common.{◌≡◌, ◌≤◌, ℕ, Option, None, Some, Bool, true, false, refl, ap, arith}
+use Rattle.std.{specs.Option.SomeIff, proofs.lemmas.Bool.Decides.nat_tests}
 use Rattle.std.specs.Prelude.{◌↔◌, ◌&&◌, nat_le, IsTrue, if◌then◌else◌}
-use Rattle.std.proofs.lemmas.Bool.Decides.{nat_tests}
 use Rattle.ticking.specs.Ticking.{IsPeriod}
 use Rattle.serve.specs.Serves.{period_of}
 
@@ -21,5 +19,4 @@ tested n false high None a b h = refl
 tested n true false None a b h = refl
 
 pub period_is : (n : ℕ) (r : Option ℕ) → SomeIff r (IsPeriod n) n → r ≡ period_of (Some n)
-period_is n r h =
-    tested n (nat_le 100 n) (nat_le n 60000) r (le_tested 100 n) (le_tested n 60000) h
+period_is n r h = tested n (nat_le 100 n) (nat_le n 60000) r (le_tested 100 n) (le_tested n 60000) h

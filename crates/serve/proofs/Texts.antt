@@ -1,13 +1,10 @@
 -- Texts that are at two places.
 use Rattle.std.proofs.Common.{◌≡◌, ◌<◌, ◌≤◌, ◌+◌, ℕ, zero, suc, List, [], ◌∷◌, Some, Option, None}
-use Rattle.std.proofs.Common.{refl, ◌∙◌, sym, ap, map, length}
-use Rattle.std.proofs.Common.{get_or, arith, Bor, Bool, true, false}
-use Rattle.std.proofs.Common.{subst, inl, inr}
-use Rattle.std.proofs.lemmas.Slice.Eq.{bytes_eq-Decides}
-use Rattle.std.proofs.lemmas.Bool.Decides.{leb_tells}
+use Rattle.std.proofs.Common.{refl, ◌∙◌, sym, ap, map, length, get_or, arith, Bor, Bool, true}
+use Rattle.std.proofs.Common.{false, subst, inl, inr}
+use Rattle.std.proofs.lemmas.{Slice.Eq.bytes_eq-Decides, Bool.Decides.leb_tells}
 use Rattle.std.specs.Prelude.{bytes_eq, slice_get, is_some, IsSomeAnd}
-use Rattle.std.specs.Net.Grammar.{IsSocketText}
-use Rattle.std.specs.declared.net.socket_addr.SocketAddr.{SocketAddr}
+use Rattle.std.specs.{Net.Grammar.IsSocketText, declared.net.socket_addr.SocketAddr.SocketAddr}
 use Rattle.serve.specs.Addresses.{AreApart, AreTwins, IsFoundFor, IsNoAddress}
 
 pub text_at : (texts : List (Bor (List ℕ))) (i : ℕ) (d : Bor (List ℕ)) → i < length texts
@@ -37,10 +34,8 @@ no_twins_at : (texts : List (Bor (List ℕ))) (i j : ℕ) (d e : Bor (List ℕ))
 no_twins_at texts i j d e before within other twins =
     let one = some_is (get_or texts i d).now twins.1
     (sym (text_at texts i d (omega (arith, before, within))) ∙ twins.2) in
-    let two = some_is (get_or texts j e).now twins.1
-    (sym (text_at texts j e within) ∙ twins.3) in
-    let same = (bytes_eq-Decides (get_or texts i d).now (get_or texts j e).now).1
-    (one ∙ sym two) in
+    let two = some_is (get_or texts j e).now twins.1 (sym (text_at texts j e within) ∙ twins.3) in
+    let same = (bytes_eq-Decides (get_or texts i d).now (get_or texts j e).now).1 (one ∙ sym two) in
     absurd (cc (same, other))
 
 pub no_twins_next : (texts : List (Bor (List ℕ))) (n j : ℕ) (d e : Bor (List ℕ)) (r : Bool)

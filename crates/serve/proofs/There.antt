@@ -1,15 +1,12 @@
 -- A desk that serves at its address, on the terms that its arguments say.
 use Rattle.std.proofs.Common.{◌≡◌, ℕ, Option, inr, subst, length, Result, IfErr}
-use Rattle.std.proofs.lemmas.Result.{IfErr-weaker}
-use Rattle.std.specs.declared.io.Write.{Ghosts as WriteOf}
+use Rattle.std.{proofs.lemmas.Result.IfErr-weaker, specs.declared.io.Write.Ghosts as WriteOf}
 use Rattle.multiplex.specs.declared.table.ServingOptions.{ServingOptions}
 use Rattle.replica.specs.Nodes.{NodeValue}
 use Rattle.sealed.specs.declared.callers.Access.{Access}
 use Rattle.store.specs.declared.keeper.Keeper.{Ghosts as KeeperOf}
-use Rattle.serve.specs.Printing.{output}
+use Rattle.serve.specs.{Printing.output, Serves.unheard, declared.fault.ServeFault.ServeFault}
 use Rattle.serve.specs.Serves.{FailsServing, FailsThere, period_of, resting, terms_of, turn}
-use Rattle.serve.specs.Serves.{unheard}
-use Rattle.serve.specs.declared.fault.ServeFault.{ServeFault}
 use Rattle.hall_file.specs.declared.service.Service.{Service}
 
 abbrev FailsOn : {K X : Type 0} → KeeperOf K → WriteOf X → ServingOptions → Option ℕ → NodeValue K
@@ -21,8 +18,7 @@ FailsOn k w t period first last before after f =
 
 pub failed_there : {K X : Type 0} (k : KeeperOf K) (w : WriteOf X) (s : Service) (d : Access)
     (t : ServingOptions) (p : Option ℕ) (first last : NodeValue K) (before after : X)
-    (r : Result (Unit {0}) ServeFault)
-    → t ≡ terms_of s d → p ≡ period_of s.tick
+    (r : Result (Unit {0}) ServeFault) → t ≡ terms_of s d → p ≡ period_of s.tick
     → IfErr r (λ f. FailsOn k w t p first last before after f)
     → IfErr r (λ f. FailsThere k w s d first last before after f)
 failed_there k w s d t p first last before after r is same h =

@@ -1,15 +1,13 @@
 -- The addresses at which a desk finds the other desks of its hall (the project's own).
 use Rattle.std.specs.Prelude.{◌≡◌, ◌<◌, ◌+◌, ℕ, List, [], ◌∷◌, take, Option, Some, IsSomeAnd}
-use Rattle.std.specs.Prelude.{slice_get}
-use Rattle.std.specs.Net.Grammar.{IsSocketText}
+use Rattle.std.specs.{Prelude.slice_get, Net.Grammar.IsSocketText}
 use Rattle.std.specs.declared.net.SocketAddr.{SocketAddr}
 use Rattle.mio_sockets.specs.Wiring.{Line, lines_from}
 
 -- an address that was found for a text, or none: where the text spells an address, an IP address
 -- and a port, that one. What a host's name stands for, the system says.
 abbrev pub IsFoundFor : List ℕ → Option SocketAddr → Type 0
-IsFoundFor text found =
-    (a : SocketAddr) → IsSocketText text a → IsSomeAnd found (IsSocketText text)
+IsFoundFor text found = (a : SocketAddr) → IsSocketText text a → IsSomeAnd found (IsSocketText text)
 
 -- for each of the texts, in their order
 abbrev pub AreFoundFor : List (List ℕ) → List (Option SocketAddr) → Type 0

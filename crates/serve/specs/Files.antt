@@ -1,17 +1,13 @@
 -- The desk that is opened on its files (the project's own).
 use Rattle.std.specs.Prelude.{◌≡◌, false, ℕ, List, []}
 use Rattle.acceptor.specs.Storing.{first_stored}
-use Rattle.acceptor.specs.declared.entry.Entry.{Entry}
-use Rattle.acceptor.specs.declared.stored.Stored.{Stored}
+use Rattle.acceptor.specs.declared.{entry.Entry.Entry, stored.Stored.Stored}
 use Rattle.sqlite.specs.Recovery.{Image}
-use Rattle.sqlite_disk.specs.declared.Disk as disk
-use Rattle.desk_file.specs.Files.{HeldAs, HeldBy, StandsIn}
-use Rattle.desk_file.specs.Uses.{IsPutInUse}
-use Rattle.replica.specs.Nodes.{NodeValue}
-use Rattle.replica.specs.roles.Opening.{opened}
-use Rattle.store.specs.declared.home.Home.{Home}
-use Rattle.store.specs.declared.keeper.Keeper.{Ghosts}
+use Rattle.desk_file.specs.{Files.HeldAs, Files.HeldBy, Files.StandsIn, Uses.IsPutInUse}
+use Rattle.replica.specs.{Nodes.NodeValue, roles.Opening.opened}
+use Rattle.store.specs.declared.{home.Home.Home, keeper.Keeper.Ghosts}
 use Rattle.hall_file.specs.declared.service.StoreOrigin.{StoreOrigin}
+use Rattle.sqlite_disk.specs.declared.Disk as disk
 use Rattle.hall_file.specs.declared.service.StoreOrigin.TheVariants as making
 
 -- What the two files held of a desk that is opened with this state and this log. As it is needed:

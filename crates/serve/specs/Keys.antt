@@ -1,14 +1,12 @@
 -- The keys of a desk, and what it asks of its clients by them (the project's own).
 use Rattle.std.specs.Prelude.{◌≡◌, ◌≢◌, ◌⊎◌, ℕ, true, false, List, Option, None, Some, IsNone}
 use Rattle.std.specs.Prelude.{IsSome, if◌then◌else◌, is_some}
-use Rattle.std.specs.Borrow.{Bor}
-use Rattle.std.specs.Option.{option_or}
+use Rattle.std.specs.{Borrow.Bor, Option.option_or}
 use Rattle.keys.specs.key_file.KeyFiles.{HasKey}
-use Rattle.sealed.specs.declared.callers.Access.{Access}
-use Rattle.sealed.specs.declared.callers.Access.TheVariants.{Open, Locked}
+use Rattle.sealed.specs.declared.callers.Access.{Access, TheVariants.Open, TheVariants.Locked}
 use Rattle.serve.specs.declared.fault.ServeFault.{ServeFault}
-use Rattle.serve.specs.declared.fault.ServeFault.TheVariants as fault
 use Rattle.hall_file.specs.declared.service.Service.{Service}
+use Rattle.serve.specs.declared.fault.ServeFault.TheVariants as fault
 
 -- the file of a second key, if one is named: that of the key that was the hall's, or else that of
 -- the entry key

@@ -1,19 +1,17 @@
 -- What a desk that serves prints, and when it may (the project's own).
-use Rattle.std.specs.Prelude.{◌≡◌, ◌⊎◌, ◌≤◌, ℕ, List, ◌++◌, codes, decimal, length, Option}
-use Rattle.std.specs.Prelude.{IfSome, Some, None, Bool, true, false, map}
+use Rattle.std.specs.Prelude.{◌≡◌, ◌⊎◌, ◌≤◌, ℕ, List, ◌++◌, codes, decimal, length, Option, IfSome}
+use Rattle.std.specs.Prelude.{Some, None, Bool, true, false, map}
 use Rattle.std.specs.Io.KnownBytes.{Keeps, Appends}
 use Rattle.lines.specs.Bytes.{AppendsPart}
 use Rattle.store.specs.Ranges.{IsHome, home_at}
-use Rattle.store.specs.declared.fault.OpenFault.{OpenFault}
-use Rattle.store.specs.declared.fault.OpenFault.TheVariants as opening
-use Rattle.store.specs.declared.home.Home.{Home}
+use Rattle.store.specs.declared.{fault.OpenFault.OpenFault, home.Home.Home}
 use Rattle.serve.specs.Addresses.{AreApart, HasTwins, IsNoAddress}
 use Rattle.serve.specs.Keys.{IsKeyed, IsOfKeys, LacksKey}
 use Rattle.serve.specs.declared.fault.ServeFault.{ServeFault}
+use Rattle.hall_file.specs.declared.service.{StoreOrigin.StoreOrigin, Service.Service}
+use Rattle.store.specs.declared.fault.OpenFault.TheVariants as opening
 use Rattle.serve.specs.declared.fault.ServeFault.TheVariants as fault
-use Rattle.hall_file.specs.declared.service.StoreOrigin.{StoreOrigin}
 use Rattle.hall_file.specs.declared.service.StoreOrigin.TheVariants as making
-use Rattle.hall_file.specs.declared.service.Service.{Service}
 
 -- which desk it is, of how many, and how long its log is
 abbrev pub first_line : Home → ℕ → List ℕ
@@ -143,8 +141,7 @@ Hinders (fault.KeyFile e) s = IsAllowed s × IsOfKeys (fault.KeyFile e) s
 Hinders fault.SameKeys s = IsAllowed s × IsOfKeys fault.SameKeys s
 Hinders fault.NoStore s = IsAllowed s × (s.making ≡ making.Open)
 Hinders fault.StoreThere s = IsAllowed s × (s.making ≡ making.New)
-Hinders (fault.UnknownHost desk) s =
-    IsAllowed s × IsOfFile s.making × IsNoAddress (texts_of s) desk
+Hinders (fault.UnknownHost desk) s = IsAllowed s × IsOfFile s.making × IsNoAddress (texts_of s) desk
 Hinders fault.Down s = ⊥
 Hinders fault.Write s = ⊥
 Hinders _ s = IsAllowed s

@@ -8,28 +8,22 @@ use Rattle.sqlite.specs.Recovery.{Image}
 use Rattle.lines.specs.Bytes.{AppendsPart}
 use Rattle.polled.specs.Happenings.{Happened}
 use Rattle.multiplex.specs.Passing.{IsServedEach, Lobby, Room, Step}
-use Rattle.multiplex.specs.declared.ends.ServingEnd.{ServingEnd}
-use Rattle.multiplex.specs.declared.ends.ServingEnd.TheVariants as over
-use Rattle.multiplex.specs.declared.ends.ServingsOutcome.{ServingsOutcome}
+use Rattle.multiplex.specs.declared.ends.{ServingEnd.ServingEnd, ServingsOutcome.ServingsOutcome}
 use Rattle.multiplex.specs.declared.table.ServingOptions.{ServingOptions}
-use Rattle.replica.specs.Handles.{Handles}
-use Rattle.replica.specs.Settles.{Settles}
+use Rattle.replica.specs.{Handles.Handles, Settles.Settles, Nodes.NodeValue}
 use Rattle.node.specs.Seeing.{seen_of}
-use Rattle.replica.specs.Nodes.{NodeValue}
 use Rattle.serving.specs.Making.{Way, outside_of, speaking}
 use Rattle.serving.specs.declared.peers.Peers.{Ghosts as PeersOf}
 use Rattle.connections.specs.Connections.{Point}
-use Rattle.store.specs.declared.home.Home.{Home}
-use Rattle.store.specs.declared.keeper.Keeper.{Ghosts as KeeperOf}
+use Rattle.store.specs.declared.{home.Home.Home, keeper.Keeper.Ghosts as KeeperOf}
 use Rattle.wire.specs.declared.values.Version.{Version}
 use Rattle.sealed.specs.declared.callers.Access.{Access}
 use Rattle.serve.specs.Files.{IsOpenedOn, KeepsFor}
-use Rattle.serve.specs.Keys.{AreDoors}
+use Rattle.serve.specs.{Keys.AreDoors, Printing.output, declared.fault.ServeFault.ServeFault}
 use Rattle.serve.specs.Printing.{Hinders, IsOfListener, Output, first_line, both_lines, home_of}
-use Rattle.serve.specs.Printing.{output}
-use Rattle.serve.specs.declared.fault.ServeFault.{ServeFault}
-use Rattle.serve.specs.declared.fault.ServeFault.TheVariants as fault
 use Rattle.hall_file.specs.declared.service.Service.{Service}
+use Rattle.multiplex.specs.declared.ends.ServingEnd.TheVariants as over
+use Rattle.serve.specs.declared.fault.ServeFault.TheVariants as fault
 
 -- how many clients may come: as many as were asked for, or, where that wasn't said, as many as can
 -- be counted
@@ -152,8 +146,7 @@ resting k wire node = record {
 -- state at the end.
 pub record IsRun {K : Type 0} (k : KeeperOf K) (files : Image) (s : Service) (o : Output)
     (Does : Turn → Point (speaking (Handles k) (Settles k) s.wire)
-    → Point (speaking (Handles k) (Settles k) s.wire)
-    → Type 0) : Type 0 where
+    → Point (speaking (Handles k) (Settles k) s.wire) → Type 0) : Type 0 where
   pub first : NodeValue K
   pub last : NodeValue K
   pub doors : Access
@@ -199,8 +192,7 @@ resting_on k p wire x = record {
 -- the node served its clients, and printed both lines
 abbrev pub ServesNode : {K U C X : Type 0} → KeeperOf K → PeersOf U
     → (C → Option (List Happened)) → WriteOf X → ServingOptions → Option ℕ → Stage K U C X
-    → Stage K U C X
-    → Type 0
+    → Stage K U C X → Type 0
 ServesNode k p happened w terms period a b =
     Serves (TellsOf k happened w terms period a b) (resting_on k p terms.wire a)
     (resting_on k p terms.wire b)
@@ -208,8 +200,7 @@ ServesNode k p happened w terms period a b =
 -- it ended by this fault
 abbrev pub FailsNode : {K U C X : Type 0} → KeeperOf K → PeersOf U
     → (C → Option (List Happened)) → WriteOf X → ServingOptions → Option ℕ → Stage K U C X
-    → Stage K U C X
-    → ServeFault → Type 0
+    → Stage K U C X → ServeFault → Type 0
 FailsNode k p happened w terms period a b f =
     FailsServing f (TellsOf k happened w terms period a b) (resting_on k p terms.wire a)
     (resting_on k p terms.wire b)

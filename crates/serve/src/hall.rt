@@ -1,16 +1,17 @@
 //! The sockets of a desk that serves: its clients, and the links to the desks of its hall.
 
-ghost use Rattle.std.specs.Prelude.{◌≡◌, IfOk, IfErr, IfSome, map};
-ghost use Rattle.mio_sockets.specs.Keying.{wires_of};
+ghost use Rattle.std.specs.Prelude.{IfOk, IfErr, IfSome, map};
+ghost use Rattle.mio_sockets.specs.{Calling.AreUnder, Wiring.lines_of};
+ghost use Rattle.desk_sockets.specs.Keying.{keys_of};
 ghost use Rattle.serve.specs.Addresses.{AreFoundFor, IsFoundFor, IsNoAddress, LeadTo};
-ghost use Rattle.serve.specs.Keys.{hall_key, old_key};
-ghost use Rattle.serve.specs.Printing.{IsOfListener};
+ghost use Rattle.serve.specs.{Keys.hall_key, Keys.old_key, Printing.IsOfListener};
 
 use crate::doors::{hall_key, old_key};
 use crate::fault::ServeFault;
 use crate::twins::twins_in;
+use desk_sockets::CallingDesk;
 use hall_file::service::Service;
-use mio_sockets::{DeskLinks, SocketConnections, SocketLinks};
+use mio_sockets::{DeskLinks, SocketLinks, neighbours};
 use multiplex::PeerLinks;
 use polled::sockets::PeerSockets;
 use prompt_lines::PromptLines;
@@ -152,10 +153,10 @@ pub fn send_rest(
     }
 }
 
-/// The links to all desks, the desk's own address too, at its start of this number, whose sockets
-/// the poll of the clients watches. Where the desk has keys, they speak under the hall's, or the
-/// one that was its own. Where lines about desks are wanted, it says which two have one address,
-/// and of which no address was found.
+/// The links to the desks of the hall, at the desk's start of this number, whose sockets the poll of
+/// the clients watches. Where the desk has keys, they speak under the hall's, or the one that was
+/// its own. Where lines about desks are wanted, it says which two have one address, and of which no
+/// address was found.
 pub fn links_to<'r>(
     rt: &'r HostRuntime,
     service: Service<'_>,
@@ -164,9 +165,9 @@ pub fn links_to<'r>(
     start: u64,
 ) -> Result<SocketLinks<'r, HostRuntime, PromptLines>, ServeFault>
     ensures links { IfOk result
-        (λ links. LeadTo (map (λ t. t.now) service.entry.addresses.now) links.lines) }
+        (λ links. LeadTo (map (λ t. t.now) service.entry.addresses.now) (lines_of links)) }
     ensures keys { IfOk result
-        (λ links. links.wires ≡ wires_of (hall_key doors) (old_key doors)) }
+        (λ links. AreUnder (keys_of (hall_key doors) (old_key doors)) links) }
     ensures err { IfErr result IsOfListener }
 {
     let registry = match clients.registry() {
@@ -181,22 +182,14 @@ pub fn links_to<'r>(
         let _ = tell_twins(&mut lines, service.addresses);
         let _ = tell_missing(&mut lines, service.addresses, &addresses);
     }
-    match DeskLinks::new(
-        rt.alloc(),
-        &addresses,
-        SocketConnections::new(
-            rt,
-            rt.alloc(),
-            registry,
-            service.hall,
-            hall_key(doors),
-            old_key(doors),
-            start,
-        ),
-        lines,
-        service.quiet,
-    ) {
-        Ok(links) => Ok(links),
-        Err(_) => Err(ServeFault::NoMemory),
+    let caller = CallingDesk {
+        hall: service.hall,
+        start,
+        key: hall_key(doors),
+        former: old_key(doors),
+    };
+    match neighbours(rt, rt.alloc(), &registry, caller, &addresses) {
+        Ok(desks) => Ok(DeskLinks::new(rt.alloc(), desks, lines, service.quiet)),
+        Err(error) => Err(no_listener(&error)),
     }
 }

@@ -2,8 +2,7 @@
 
 ghost use Rattle.std.specs.Prelude.{◌≡◌, ◌↔◌, IfOk, IfErr, OnOk, IsTrue};
 ghost use Rattle.store.specs.Ranges.{IsHome};
-ghost use Rattle.serve.specs.Addresses.{AreApart, HasTwins};
-ghost use Rattle.serve.specs.Keys.{IsKeyed, LacksKey};
+ghost use Rattle.serve.specs.{Addresses.AreApart, Addresses.HasTwins, Keys.IsKeyed, Keys.LacksKey};
 ghost use Rattle.serve.specs.Printing.{IsAllowed, IsOfFile, IsRefused, home_of, texts_of};
 
 use crate::doors::second_file;
@@ -45,8 +44,7 @@ fn placed_home(service: Service<'_>) -> Result<Home, ServeFault>
 
 /// Refuses two equal addresses of a hall's file.
 fn apart(service: Service<'_>) -> Result<(), ServeFault>
-    ensures ok { OnOk result
-        (IsOfFile service.entry.making → AreApart (texts_of service.entry)) }
+    ensures ok { OnOk result (IsOfFile service.entry.making → AreApart (texts_of service.entry)) }
     ensures err { IfErr result (λ f. (f ≡ ServeFault.SameAddresses)
         × IsOfFile service.entry.making × HasTwins (texts_of service.entry)) }
 {

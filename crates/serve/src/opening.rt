@@ -2,10 +2,8 @@
 
 ghost use Rattle.std.specs.Prelude.{◌≡◌, [], IfErr, IfOk, IsTrue};
 ghost use Rattle.acceptor.specs.Storing.{first_stored};
-ghost use Rattle.sqlite.specs.Recovery.{Image};
-ghost use Rattle.sqlite.specs.WalFiles.{image_at};
-ghost use Rattle.store.specs.Ranges.{IsHome};
-ghost use Rattle.store.specs.declared.home.Home.{Home as Place};
+ghost use Rattle.sqlite.specs.{Recovery.Image, WalFiles.image_at};
+ghost use Rattle.store.specs.{Ranges.IsHome, declared.home.Home.Home as Place};
 ghost use Rattle.serve.specs.Files.{IsUsedFor, KeepsFor, opening_of};
 ghost use Rattle.serve.specs.Printing.{IsOfOpening, IsOfStore, refusal_of};
 

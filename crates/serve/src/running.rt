@@ -2,11 +2,10 @@
 
 ghost use Rattle.std.specs.Prelude.{◌≡◌, IfErr, OnOk};
 ghost use Rattle.sqlite.specs.WalFiles.{image_at};
-ghost use Rattle.serve.specs.Keys.{AreDoors};
+ghost use Rattle.serve.specs.{Keys.AreDoors, Serves.terms_of};
 ghost use Rattle.serve.specs.Printing.{IsAllowed, Prints, PrintsAt, home_of, output};
 ghost use Rattle.serve.specs.Serves.{FailsDesk, FailsKept, FailsNode, FailsThere, RunsDesk};
 ghost use Rattle.serve.specs.Serves.{RunsKept, ServesNode, ServesThere, ends_by, period_of, stage};
-ghost use Rattle.serve.specs.Serves.{terms_of};
 
 use crate::closing::{Close, close_node};
 use crate::doors::doors_of;
@@ -18,7 +17,7 @@ use crate::telling::{tell_first, tell_last};
 use answers::Desk;
 use desk_file::fault_of_load;
 use hall_file::service::Service;
-use multiplex::{PeerLinks, ServingEnd, ServingOptions, serve_each};
+use multiplex::{OwnFrames, OwnLinks, ServingEnd, ServingOptions, serve_each};
 use node::Node;
 use polled::Sockets;
 use sealed::Access;
@@ -87,7 +86,7 @@ fn period_of(service: Service<'_>) -> Option<Period>
 ///   written.
 ///
 /// Where the first line can't be written, nobody is served.
-pub fn serve_node<K: Keeper + Drop, C: Sockets, L: PeerLinks, W: Write>(
+pub fn serve_node<K: Keeper + Drop, C: Sockets, L: OwnLinks, W: Write>(
     alloc: Global,
     terms: ServingOptions,
     period: Option<Period>,
@@ -131,10 +130,11 @@ fn serve_there<K: Keeper + Drop, W: Write>(
         Ok(clients) => clients,
         Err(fault) => return Err(fault),
     };
-    let mut links = match links_to(rt, service, doors, &clients, start) {
+    let links = match links_to(rt, service, doors, &clients, start) {
         Ok(links) => links,
         Err(fault) => return Err(fault),
     };
+    let mut links = OwnFrames::new(rt.alloc(), node.home().desk, links);
     let ended = serve_node(
         rt.alloc(),
         terms_of(service, doors),
@@ -144,7 +144,7 @@ fn serve_there<K: Keeper + Drop, W: Write>(
         &mut links,
         writer,
     );
-    send_rest(rt, &mut links, node.is_down());
+    send_rest(rt, &mut links.links, node.is_down());
     ended
 }
 
@@ -181,9 +181,9 @@ fn serve_kept<K: Keeper + Close + Drop, W: Write>(
 }
 
 /// Opens a desk's file, listens at the desk's address, and serves the clients that come, side by
-/// side; frames for desks go to their addresses, those for itself to its own. With a key of the
-/// hall it asks a key of each client, and speaks to desks under the hall's. On standard error it
-/// says when a desk can't be reached, and when it is reached again, unless `quiet` is asked for.
+/// side; frames for other desks go to their addresses. With a key of the hall it asks a key of each
+/// client, and speaks to the other desks under the hall's. On standard error it says when a desk
+/// can't be reached, and when it is reached again, unless `quiet` is asked for.
 ///
 /// Once it listens it prints `desk <d> of <n> len <len>`, and at its end `served <count>`. It ends
 /// once it has served as many connections as were asked for, where a client asks it to stop, and by

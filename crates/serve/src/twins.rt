@@ -6,8 +6,7 @@ ghost use Rattle.serve.specs.Addresses.{AreApart, AreTwins};
 /// The first place before this one with the same text.
 fn twin_before(texts: &[&str], second: usize) -> Option<usize>
     requires { second < length texts.now }
-    ensures found { IfSome result
-        (λ first. AreTwins (map (λ t. t.now) texts.now) first second) }
+    ensures found { IfSome result (λ first. AreTwins (map (λ t. t.now) texts.now) first second) }
     ensures none { IfNone result
         ((first : ℕ) → ¬ AreTwins (map (λ t. t.now) texts.now) first second) }
 {

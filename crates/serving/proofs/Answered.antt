@@ -1,42 +1,31 @@
 -- What the code did for a request is what the request asks.
-use Rattle.std.proofs.Common.{◌≡◌, refl, sym, ap, subst, ◌∙◌, ℕ, List, [], ◌∷◌, ◌++◌, Option, None}
-use Rattle.std.proofs.Common.{Some}
-use Rattle.std.proofs.lemmas.List.{append-nil}
+use Rattle.std.proofs.Common.{◌≡◌, refl, sym, ap, subst, ◌∙◌, List, [], ◌++◌, Option, None}
+use Rattle.std.proofs.{Common.Some, lemmas.List.append-nil}
 use Rattle.acceptor.specs.declared.message.Message.{Message}
 use Rattle.learner.specs.declared.event.DeskEvent.TheVariants.{Deliver, Tick}
 use Rattle.wire.specs.declared.frame.FrameBody.{FrameBody}
-use Rattle.wire.specs.declared.frame.FrameBody.TheVariants as what
 use Rattle.store.specs.declared.home.Home.{Home}
-use Rattle.serving.specs.Making.{Way, Outside, Makes}
-use Rattle.serving.specs.Answering.{answer_of, answer_first, state, told_what, printed, standing}
-use Rattle.serving.specs.Answering.{copied}
+use Rattle.serving.specs.{Making.Way, Making.Outside, Nodes.Fate, Nodes.reply}
+use Rattle.serving.{specs.Making.Makes, proofs.Makings.Makes-nil}
+use Rattle.serving.specs.Answering.{answer_of, answer_first}
 use Rattle.serving.specs.model.Requests.{Answers, AnswersSome, FailsToAnswer}
 use Rattle.answers.specs.Seen.{Seen}
-use Rattle.serving.specs.Nodes.{Fate, reply}
 use Rattle.serving.specs.model.Reaching.{at, service, Reaches, DoesPart, DoesTake}
-use Rattle.serving.specs.Serving.{Act, Service, first_fate, take, begun, served, answer}
-use Rattle.serving.specs.Serving.{seen_after}
-use Rattle.serving.specs.declared.calls.NodeAnswer.{NodeAnswer}
-use Rattle.serving.specs.declared.request.Request.{Request}
-use Rattle.serving.specs.declared.request.Request.TheVariants.{Heard, Ticked, Asked, Printed}
-use Rattle.serving.specs.declared.request.Request.TheVariants.{Inspected, Copied, Stopped, Strange}
-use Rattle.serving.specs.declared.request.Request.TheVariants.{Ignored, Denied, Withheld}
-use Rattle.wire.specs.declared.standing.Difference.{Difference}
-use Rattle.wire.specs.declared.values.ClientRefusal.TheVariants as refusal
+use Rattle.serving.specs.Serving.{Act, Service, first_fate, take, begun, served, answer, seen_after}
+use Rattle.serving.specs.declared.{calls.NodeAnswer.NodeAnswer, request.Request.Request}
+use Rattle.serving.specs.declared.request.Request.TheVariants.{Heard, Ticked}
 use Rattle.formats.specs.declared.events.Event.{Event as EventOf}
 use Rattle.formats.specs.declared.styles.SheetStyle.{SheetStyle as Style}
-use Rattle.serving.proofs.Makings.{Makes-nil}
+use Rattle.wire.specs.declared.frame.FrameBody.TheVariants as what
 
 -- what reached its end from the beginning of a frame
-pub took : (home : Home) (f : Service → Service) (x y : Seen) (acts : List Act)
-    (past : List Fate)
+pub took : (home : Home) (f : Service → Service) (x y : Seen) (acts : List Act) (past : List Fate)
     → Reaches home f (at x []) (λ s. s) (at y []) acts past
     → f (begun x past) ≡ service (at y []) acts []
 took home f x y acts past r = ap (λ z. f (begun x z)) (sym (append-nil past)) ∙ r.steps [] []
 
 pub took_calls : (home : Home) (f : Service → Service) (x y : Seen) (acts : List Act)
-    (past : List Fate)
-    → Reaches home f (at x []) (λ s. s) (at y []) acts past
+    (past : List Fate) → Reaches home f (at x []) (λ s. s) (at y []) acts past
     → y ≡ seen_after home x acts past
 took_calls home f x y acts past r =
     sym (r.calls [] []) ∙ ap (λ z. seen_after home x z (past ++ [])) (append-nil acts)
@@ -44,12 +33,9 @@ took_calls home f x y acts past r =
 
 -- the calls and pushes of a request, and the node behind it; the answer is another matter
 pub answers_by : {V : Type 0} {way : Way V} (home : Home) (r : Request) (x y : Seen)
-    (acts : List Act)
-    (past : List Fate) (w : Option FrameBody) (a b : Outside way)
+    (acts : List Act) (past : List Fate) (w : Option FrameBody) (a b : Outside way)
     → (served home x past r ≡ service (at y []) acts []) → (y ≡ seen_after home x acts past)
-    → Makes home.hall a b acts
-    → w ≡ answer home x past r
-    → Answers home x y past r w a b
+    → Makes home.hall a b acts → w ≡ answer home x past r → Answers home x y past r w a b
 answers_by home r x y acts past w a b all calls made is = record {
   answer_is = is;
   made =
@@ -60,10 +46,8 @@ answers_by home r x y acts past w a b all calls made is = record {
 
 -- a message of a desk
 pub hears : {V : Type 0} {way : Way V} (home : Home) (m : Message) (x y : Seen)
-    (answer : NodeAnswer) (acts : List Act)
-    (past : List Fate) (a b : Outside way)
-    → DoesTake home (Deliver m) answer x y acts past a b
-    → AnswersSome home x y (Heard m) None a b
+    (answer : NodeAnswer) (acts : List Act) (past : List Fate) (a b : Outside way)
+    → DoesTake home (Deliver m) answer x y acts past a b → AnswersSome home x y (Heard m) None a b
 hears home m x y answer acts past a b h = (
   past,
   answers_by home (Heard m) x y acts past None a b
@@ -73,8 +57,7 @@ hears home m x y answer acts past a b h = (
 
 -- a Tick
 pub ticks : {V : Type 0} {way : Way V} (home : Home) (x y : Seen) (answer : NodeAnswer)
-    (acts : List Act)
-    (past : List Fate) (w : FrameBody) (a b : Outside way)
+    (acts : List Act) (past : List Fate) (w : FrameBody) (a b : Outside way)
     → DoesTake home Tick answer x y acts past a b → w ≡ answer_first what.Fine answer y
     → AnswersSome home x y Ticked (Some w) a b
 ticks home x y answer acts past w a b h is =
@@ -98,8 +81,7 @@ ticks home x y answer acts past w a b h is =
 -- a front part of an event: what was done begins what would have been done, and the node is the one
 -- after it
 part_acts : {V : Type 0} {way : Way V} (home : Home) (f : Service → Service) (x shown : Seen)
-    (a b : Outside way)
-    (d : DoesPart home f (at x []) shown a b)
+    (a b : Outside way) (d : DoesPart home f (at x []) shown a b)
     → (more : List Act) × ((f (begun x d.1)).done ≡ d.0 ++ more)
 part_acts home f x shown a b d =
     let more = d.4.adds (service d.3 d.0 []) in (
@@ -109,8 +91,7 @@ part_acts home f x shown a b d =
     )
 
 part_seen : {V : Type 0} {way : Way V} (home : Home) (f : Service → Service) (x shown : Seen)
-    (a b : Outside way)
-    (d : DoesPart home f (at x []) shown a b)
+    (a b : Outside way) (d : DoesPart home f (at x []) shown a b)
     → shown ≡ seen_after home x d.0 d.1
 part_seen home f x shown a b d =
     sym d.4.last ∙ sym (d.4.reaches.calls [] [])
@@ -119,8 +100,7 @@ part_seen home f x shown a b d =
 
 -- memory was refused on the way of a request
 pub fails : {V : Type 0} {way : Way V} (home : Home) (f : Service → Service) (r : Request)
-    (x shown : Seen)
-    (a b : Outside way)
+    (x shown : Seen) (a b : Outside way)
     → ((fates : List Fate) → served home x fates r ≡ f (begun x fates))
     → DoesPart home f (at x []) shown a b → FailsToAnswer home x shown r a b
 fails home f r x shown a b is d =
@@ -135,110 +115,19 @@ fails home f r x shown a b is d =
       },
     )
 
--- what became of a command, and a sheet: the node is asked, and is as it was
-pub asks : {V : Type 0} {way : Way V} (home : Home) (r : Request) (id : ℕ) (x : Seen)
-    (w : FrameBody)
-    (a : Outside way)
-    → r ≡ Asked id
-    → (fate : Fate) × (w ≡ told_what id fate (state x id)) → AnswersSome home x x r (Some w) a a
-asks home r id x w a is h =
-    subst (λ z. AnswersSome home x x z (Some w) a a) (sym is) (
-      h.0 ∷ [],
+-- a request that neither calls the node nor pushes: the node is as it was
+pub quiet : {V : Type 0} {way : Way V} (home : Home) (r s : Request) (fates : List Fate) (x : Seen)
+    (w : Option FrameBody) (a : Outside way)
+    → r ≡ s → served home x fates s ≡ begun x fates → w ≡ answer home x fates s
+    → AnswersSome home x x r w a a
+quiet home r s fates x w a is none said =
+    subst (λ z. AnswersSome home x x z w a a) (sym is) (
+      fates,
       record {
-        answer_is = ap
-            (λ z. Some z) h.1;
-        made = Makes-nil home.hall a;
-        node = refl;
-        calls = refl;
+        answer_is = said;
+        made = subst (λ (z : Service). Makes home.hall a a z.done) (sym none)
+            (Makes-nil home.hall a);
+        node = sym (ap (λ (z : Service). z.seen) none);
+        calls = subst (λ (z : Service). x ≡ seen_after home x z.done fates) (sym none) refl;
       },
-    )
-
-pub prints : {V : Type 0} {way : Way V} (home : Home) (r : Request) (event : EventOf)
-    (round position : ℕ) (style : Style)
-    (x : Seen) (w : FrameBody) (a : Outside way)
-    → r ≡ Printed event round position style
-    → (fate : Fate) × (w ≡ printed x fate event round position style)
-    → AnswersSome home x x r (Some w) a a
-prints home r event round position style x w a is h =
-    subst (λ z. AnswersSome home x x z (Some w) a a) (sym is) (
-      h.0 ∷ [],
-      record {
-        answer_is = ap
-            (λ z. Some z) h.1;
-        made = Makes-nil home.hall a;
-        node = refl;
-        calls = refl;
-      },
-    )
-
--- how the desk is, and entries of its log: so it is too
-pub inspects : {V : Type 0} {way : Way V} (home : Home) (r : Request)
-    (differs : Option Difference) (x : Seen) (w : FrameBody) (a : Outside way)
-    → r ≡ Inspected differs → w ≡ what.Standing (standing home x differs)
-    → AnswersSome home x x r (Some w) a a
-inspects home r differs x w a is h =
-    subst (λ z. AnswersSome home x x z (Some w) a a) (sym is) (
-      [],
-      record {
-        answer_is = ap (λ z. Some z) h;
-        made = Makes-nil home.hall a;
-        node = refl;
-        calls = refl;
-      },
-    )
-
-pub copies : {V : Type 0} {way : Way V} (home : Home) (r : Request) (position : ℕ) (x : Seen)
-    (w : FrameBody) (a : Outside way)
-    → r ≡ Copied position → (fate : Fate) × (w ≡ copied x fate position)
-    → AnswersSome home x x r (Some w) a a
-copies home r position x w a is h =
-    subst (λ z. AnswersSome home x x z (Some w) a a) (sym is) (
-      h.0 ∷ [],
-      record {
-        answer_is = ap (λ z. Some z) h.1;
-        made = Makes-nil home.hall a;
-        node = refl;
-        calls = refl;
-      },
-    )
-
--- a Stop, a frame for another desk, and one that is ignored: nothing is called or pushed
-pub stops : {V : Type 0} {way : Way V} (home : Home) (r : Request) (x : Seen) (a : Outside way)
-    → r ≡ Stopped → AnswersSome home x x r (Some what.Fine) a a
-stops home r x a is =
-    subst (λ z. AnswersSome home x x z (Some what.Fine) a a) (sym is) (
-      [],
-      record { answer_is = refl; made = Makes-nil home.hall a; node = refl; calls = refl },
-    )
-
-pub estranges : {V : Type 0} {way : Way V} (home : Home) (r : Request) (x : Seen) (a : Outside way)
-    → r ≡ Strange → AnswersSome home x x r (Some (what.Refused refusal.Foreign)) a a
-estranges home r x a is =
-    subst (λ z. AnswersSome home x x z (Some (what.Refused refusal.Foreign)) a a) (sym is) (
-      [],
-      record { answer_is = refl; made = Makes-nil home.hall a; node = refl; calls = refl },
-    )
-
-pub denies : {V : Type 0} {way : Way V} (home : Home) (r : Request) (x : Seen) (a : Outside way)
-    → r ≡ Denied → AnswersSome home x x r (Some (what.Refused refusal.NotAllowed)) a a
-denies home r x a is =
-    subst (λ z. AnswersSome home x x z (Some (what.Refused refusal.NotAllowed)) a a) (sym is) (
-      [],
-      record { answer_is = refl; made = Makes-nil home.hall a; node = refl; calls = refl },
-    )
-
-pub withholds : {V : Type 0} {way : Way V} (home : Home) (r : Request) (x : Seen) (a : Outside way)
-    → r ≡ Withheld → AnswersSome home x x r (Some (what.Refused refusal.HallDiffers)) a a
-withholds home r x a is =
-    subst (λ z. AnswersSome home x x z (Some (what.Refused refusal.HallDiffers)) a a) (sym is) (
-      [],
-      record { answer_is = refl; made = Makes-nil home.hall a; node = refl; calls = refl },
-    )
-
-pub ignores : {V : Type 0} {way : Way V} (home : Home) (r : Request) (x : Seen) (a : Outside way)
-    → r ≡ Ignored → AnswersSome home x x r None a a
-ignores home r x a is =
-    subst (λ z. AnswersSome home x x z None a a) (sym is) (
-      [],
-      record { answer_is = refl; made = Makes-nil home.hall a; node = refl; calls = refl },
     )

@@ -1,30 +1,22 @@
 -- One frame after the other.
-use Rattle.std.proofs.Common.{◌≡◌, refl, sym, ap, subst, ◌∙◌, ℕ, ◌+◌, List, [], ◌∷◌, ◌++◌}
-use Rattle.std.proofs.Common.{length, length-append, Option, None, Some, arith}
-use Rattle.std.proofs.lemmas.List.{append-nil, append_assoc}
-use Rattle.std.proofs.KnownBytes.{Appends-nil, Appends-trans}
-use Rattle.std.specs.Io.KnownBytes.{Appends}
-use Rattle.wire.specs.declared.frame.Frame.{Frame}
-use Rattle.wire.specs.declared.standing.Difference.{Difference}
+use Rattle.std.proofs.Common.{◌≡◌, refl, sym, ap, subst, ◌∙◌, ℕ, ◌+◌, List, [], ◌∷◌, ◌++◌, length}
+use Rattle.std.proofs.Common.{length-append, Option, None, Some, arith}
+use Rattle.std.{proofs.lemmas.List.append-nil, specs.Io.KnownBytes.Appends}
+use Rattle.std.proofs.{lemmas.List.append_assoc, KnownBytes.Appends-nil, KnownBytes.Appends-trans}
+use Rattle.wire.specs.declared.{frame.Frame.Frame, standing.Difference.Difference}
 use Rattle.wire.specs.Spelling.{spelling}
-use Rattle.serving.specs.Making.{Way, Makes}
+use Rattle.serving.specs.{Making.Way, Nodes.Fate, Serving.Act, model.Pieces.EndsInFrames}
+use Rattle.serving.{specs.Making.Makes, proofs.Makings.Makes-nil, proofs.Makings.Makes-trans}
 use Rattle.store.specs.declared.home.Home.{Home}
-use Rattle.serving.specs.declared.ends.FrameEnd.{FrameEnd}
-use Rattle.serving.specs.declared.ends.FrameEnd.TheVariants as close
-use Rattle.serving.specs.declared.ends.ConnectionEnd.{ConnectionEnd}
-use Rattle.serving.specs.declared.ends.ConnectionEnd.TheVariants as end
-use Rattle.serving.specs.declared.ends.FrameFault.{FrameFault}
-use Rattle.serving.specs.declared.ends.FrameFault.TheVariants as fault
+use Rattle.serving.specs.declared.ends.{FrameEnd.FrameEnd, ConnectionEnd.ConnectionEnd}
+use Rattle.serving.specs.declared.{ends.FrameFault.FrameFault, permission.Permission.Permission}
 use Rattle.answers.specs.Seen.{Seen}
-use Rattle.serving.specs.declared.permission.Permission.{Permission}
-use Rattle.serving.specs.Nodes.{Fate}
-use Rattle.serving.specs.Serving.{Act}
 use Rattle.serving.specs.Connection.{Begun, frames_of, Outcome, serve_frame, serve_frames, close_of}
-use Rattle.serving.specs.Connection.{then_others, StaysOpen, AreUnder, answer_bytes, Sides}
-use Rattle.serving.specs.Connection.{FailsIn, IsServed}
-use Rattle.serving.specs.Connection.{ServesOne, Serves, Closes, Fails}
-use Rattle.serving.specs.model.Pieces.{EndsInFrames}
-use Rattle.serving.proofs.Makings.{Makes-nil, Makes-trans}
+use Rattle.serving.specs.Connection.{then_others, StaysOpen, AreUnder, answer_bytes, Sides, FailsIn}
+use Rattle.serving.specs.Connection.{IsServed, ServesOne, Serves, Closes, Fails}
+use Rattle.serving.specs.declared.ends.FrameEnd.TheVariants as close
+use Rattle.serving.specs.declared.ends.ConnectionEnd.TheVariants as end
+use Rattle.serving.specs.declared.ends.FrameFault.TheVariants as fault
 
 then_assoc : (a b c : Outcome) → then_others a (then_others b c) ≡ then_others (then_others a b) c
 then_assoc a b c = assoc_of a.acts b.acts c.acts a.answers b.answers c.answers c.seen
@@ -39,8 +31,7 @@ then_assoc a b c = assoc_of a.acts b.acts c.acts a.answers b.answers c.answers c
         ∙ ap (λ z. outcome ((a ++ b) ++ c) z x) (sym (append_assoc d e f))
 
 -- frames and then others
-pub frames_then : (home : Home) (x : Seen) (bs cs : List Begun)
-    → serve_frames home x (bs ++ cs)
+pub frames_then : (home : Home) (x : Seen) (bs cs : List Begun) → serve_frames home x (bs ++ cs)
     ≡ then_others (serve_frames home x bs) (serve_frames home (serve_frames home x bs).seen cs)
 frames_then home x [] cs = refl
 frames_then home x (b ∷ bs) cs =
@@ -76,40 +67,45 @@ serves_none home a =
       };
     }
 
+-- frames and then more of them
+pub served_then : {V : Type 0} {way : Way V} (home : Home) (a m b : Sides way) (bs cs : List Begun)
+    → IsServed home a m bs → IsServed home m b cs → IsServed home a b (bs ++ cs)
+served_then home a m b bs cs h k =
+    let first = serve_frames home a.seen bs in
+    let second = serve_frames home m.seen cs in
+    let is : serve_frames home a.seen (bs ++ cs) ≡ then_others first second
+    = frames_then home a.seen bs cs
+    ∙ ap (λ z. then_others first (serve_frames home z cs)) (sym h.node) in
+    record {
+      answered =
+          subst (λ (z : Outcome). Appends a.written b.written (answer_bytes z.answers)) (sym is)
+          (subst (λ z. Appends a.written b.written z)
+          (sym (bytes_then first.answers second.answers))
+          (Appends-trans a.written m.written b.written _ _ h.answered k.answered));
+      made =
+          subst (λ (z : Outcome). Makes home.hall a.outside b.outside z.acts) (sym is)
+          (Makes-trans home.hall a.outside m.outside b.outside first.acts second.acts h.made
+          k.made);
+      node = k.node ∙ ap (λ (z : Outcome). z.seen) (sym is);
+    }
+
 -- one frame after those served so far
 pub serves_one : {V : Type 0} {way : Way V} (home : Home) (a m b : Sides way) (bs : List Begun)
     (one : Begun) (ends : Option FrameEnd)
     → Serves home a m bs → ServesOne home m b one ends → IsServed home a b (bs ++ one ∷ [])
 serves_one home a m b bs one ends h k =
-    let x = (serve_frames home a.seen bs).seen in
-    let then = frames_then home a.seen bs (one ∷ []) in
-    let same : m.seen ≡ x = h.served.node in
     let mid = serve_frame home m.seen one in
-    let is : serve_frames home a.seen (bs ++ one ∷ [])
-    ≡ then_others (serve_frames home a.seen bs) (serve_frames home m.seen (one ∷ []))
-    = then
-    ∙ ap (λ z. then_others (serve_frames home a.seen bs) (serve_frames home z (one ∷ [])))
-    (sym same) in
-    record {
+    served_then home a m b bs (one ∷ []) h.served (record {
       answered =
-          subst (λ (z : Outcome). Appends a.written b.written (answer_bytes z.answers)) (sym is)
-          (subst (λ z. Appends a.written b.written z)
-          (sym
-          (bytes_then (serve_frames home a.seen bs).answers (mid.answers ++ [])
-          ∙ ap (λ z. answer_bytes (serve_frames home a.seen bs).answers ++ answer_bytes z)
-          (append-nil mid.answers)))
-          (Appends-trans a.written m.written b.written _ _ h.served.answered k.answered));
+          subst (λ z. Appends m.written b.written (answer_bytes z)) (sym (append-nil mid.answers))
+          k.answered;
       made =
-          subst (λ (z : Outcome). Makes home.hall a.outside b.outside z.acts) (sym is)
-          (Makes-trans home.hall a.outside m.outside b.outside (serve_frames home a.seen bs).acts
-          (mid.acts ++ []) h.served.made
-          (subst (λ z. Makes home.hall m.outside b.outside z) (sym (append-nil mid.acts)) k.made));
-      node = k.node ∙ ap (λ (z : Outcome). z.seen) (sym is);
-    }
+          subst (λ z. Makes home.hall m.outside b.outside z) (sym (append-nil mid.acts)) k.made;
+      node = k.node;
+    })
 
 pub serves_more : {V : Type 0} {way : Way V} (home : Home) (a m b : Sides way) (bs : List Begun)
-    (one : Begun)
-    (ends : Option FrameEnd)
+    (one : Begun) (ends : Option FrameEnd)
     → Serves home a m bs → ServesOne home m b one ends → ends ≡ None
     → Serves home a b (bs ++ one ∷ [])
 serves_more home a m b bs one ends h k none = record {
@@ -120,8 +116,7 @@ serves_more home a m b bs one ends h k none = record {
 }
 
 pub serves_last : {V : Type 0} {way : Way V} (home : Home) (a m b : Sides way) (bs : List Begun)
-    (one : Begun)
-    (ends : Option FrameEnd) (last : FrameEnd)
+    (one : Begun) (ends : Option FrameEnd) (last : FrameEnd)
     → Serves home a m bs → ServesOne home m b one ends → ends ≡ Some last
     → Closes last home a b (bs ++ one ∷ [])
 serves_last home a m b bs one ends last h k some = (
@@ -145,32 +140,8 @@ fails_last why e home a m b bs one is h k = (
   record { parts = refl; before = h; fails = subst (λ z. FailsIn z home m b one) is k },
 )
 
--- frames and then more of them
-pub served_then : {V : Type 0} {way : Way V} (home : Home) (a m b : Sides way) (bs cs : List Begun)
-    → IsServed home a m bs
-    → IsServed home m b cs → IsServed home a b (bs ++ cs)
-served_then home a m b bs cs h k =
-    let first = serve_frames home a.seen bs in
-    let second = serve_frames home m.seen cs in
-    let is : serve_frames home a.seen (bs ++ cs) ≡ then_others first second
-    = frames_then home a.seen bs cs
-    ∙ ap (λ z. then_others first (serve_frames home z cs)) (sym h.node) in
-    record {
-      answered =
-          subst (λ (z : Outcome). Appends a.written b.written (answer_bytes z.answers)) (sym is)
-          (subst (λ z. Appends a.written b.written z)
-          (sym (bytes_then first.answers second.answers))
-          (Appends-trans a.written m.written b.written _ _ h.answered k.answered));
-      made =
-          subst (λ (z : Outcome). Makes home.hall a.outside b.outside z.acts) (sym is)
-          (Makes-trans home.hall a.outside m.outside b.outside first.acts second.acts h.made
-          k.made);
-      node = k.node ∙ ap (λ (z : Outcome). z.seen) (sym is);
-    }
-
 pub serves_then : {V : Type 0} {way : Way V} (home : Home) (a m b : Sides way) (bs cs : List Begun)
-    → Serves home a m bs
-    → Serves home m b cs → Serves home a b (bs ++ cs)
+    → Serves home a m bs → Serves home m b cs → Serves home a b (bs ++ cs)
 serves_then home a m b bs cs h k = record {
   stays =
       open_then home a.seen bs cs h.stays (subst (λ z. StaysOpen home z cs) h.served.node k.stays);
@@ -218,24 +189,19 @@ fails_then why home a m b bs cs h k = (
 
 -- frames, and then others, of which one ends the connection
 pub ends_then : {V : Type 0} {way : Way V} (e : ConnectionEnd) (home : Home) (a m b : Sides way)
-    (bs cs : List Begun) (count : ℕ)
-    → Serves home a m bs → EndsInFrames e home m b cs count
+    (bs cs : List Begun) (count : ℕ) → Serves home a m bs → EndsInFrames e home m b cs count
     → EndsInFrames e home a b (bs ++ cs) count
 ends_then end.Stopped home a m b bs cs count h k = closes_then close.Stopped home a m b bs cs h k
 ends_then end.Down home a m b bs cs count h k = closes_then close.Down home a m b bs cs h k
 ends_then end.Frames home a m b bs cs count h k = (serves_then home a m b bs cs h k.0, k.1)
 ends_then end.Write home a m b bs cs count h k = fails_then fault.Write home a m b bs cs h k
 ends_then end.NoMemory home a m b bs cs count h k = fails_then fault.NoMemory home a m b bs cs h k
-ends_then end.End home a m b bs cs count h k = absurd k
-ends_then end.Reads home a m b bs cs count h k = absurd k
-ends_then (end.Fault e) home a m b bs cs count h k = absurd k
-ends_then end.Read home a m b bs cs count h k = absurd k
+ends_then _ home a m b bs cs count h k = absurd k
 
 -- one frame more was begun
 pub begun_more : (all rest after : List Frame) (f : Frame) (may : Permission)
     (differs : Option Difference) (fates : List Fate) (begun : List Begun)
-    → all ≡ frames_of begun ++ rest → rest ≡ f ∷ after
-    → all ≡
+    → all ≡ frames_of begun ++ rest → rest ≡ f ∷ after → all ≡
     frames_of (begun ++ record { frame = f; may = may; differs = differs; fates = fates } ∷ [])
     ++ after
 begun_more all rest after f may differs fates begun parts first =

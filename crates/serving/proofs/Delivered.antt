@@ -1,27 +1,20 @@
 -- Entries that are delivered one after the other, and the messages of the last one.
-use Rattle.std.proofs.Common.{◌≡◌, refl, sym, ap, subst, ◌∙◌, ℕ, ◌+◌, Bool, true, false, cond, List}
-use Rattle.std.proofs.Common.{[], ◌∷◌, ◌++◌, Option}
-use Rattle.std.proofs.lemmas.List.{append-nil}
-use Rattle.acceptor.specs.declared.entry.Entry.{Entry}
-use Rattle.acceptor.specs.declared.message.Message.{Message}
+use Rattle.std.proofs.Common.{◌≡◌, refl, sym, ap, subst, ◌∙◌, ℕ, ◌+◌, Bool, [], ◌∷◌, ◌++◌, Option}
+use Rattle.std.proofs.{Common.true, Common.false, Common.cond, Common.List, lemmas.List.append-nil}
+use Rattle.acceptor.specs.declared.{entry.Entry.Entry, message.Message.Message}
 use Rattle.store.specs.declared.home.Home.{Home}
-use Rattle.serving.specs.Adding.{Push}
+use Rattle.serving.specs.{Adding.Push, Nodes.Fate, declared.calls.NodeAnswer.NodeAnswer}
 use Rattle.serving.specs.Making.{Way, Outside, outside_of, Makes}
 use Rattle.answers.specs.Seen.{Seen}
-use Rattle.serving.specs.Nodes.{Fate}
-use Rattle.serving.specs.declared.calls.NodeAnswer.{NodeAnswer}
-use Rattle.serving.specs.declared.request.DecidedRun.{DecidedRun}
-use Rattle.serving.specs.declared.request.Request.TheVariants.{Learned}
+use Rattle.serving.specs.declared.request.{DecidedRun.DecidedRun, Request.TheVariants.Learned}
 use Rattle.serving.specs.model.Calling.{Calls, IsCall, LosesMessages}
 use Rattle.serving.specs.model.Reaching.{Place, at, service, Reaches, did_call, OnlyAdds, Does}
-use Rattle.serving.specs.model.Reaching.{DoesPart}
+use Rattle.serving.{specs.model.Reaching.DoesPart, specs.Serving.push_all, proofs.Said.IsSaid}
 use Rattle.serving.specs.Serving.{Act, Service, waits, call, decided, unless_down, learn, learn_all}
-use Rattle.serving.specs.Serving.{push_all}
 use Rattle.serving.proofs.Additions.{adds_both, adds_call, adds_push}
 use Rattle.serving.proofs.Makings.{Makes-nil, Makes-call, makes_then}
 use Rattle.serving.proofs.Parts.{part_of, part_first, part_both, lost}
 use Rattle.serving.proofs.Reached.{stays, goes_on, does_both, calls_once}
-use Rattle.serving.proofs.Said.{IsSaid}
 
 -- ---- one entry
 
@@ -31,16 +24,13 @@ others home from to pos es s = unless_down (λ t. learn home from to (pos + 1) e
 
 -- what waits is dropped, and the first entry delivered
 pub first_entry : (home : Home) (from to pos : ℕ) (e : Entry) (es : List Entry) (x : Seen)
-    (ms : List Message)
-    → Reaches home (learn home from to pos (e ∷ es)) (at x ms)
+    (ms : List Message) → Reaches home (learn home from to pos (e ∷ es)) (at x ms)
     (λ s. others home from to pos es (call home (decided from to pos e) s)) (at x []) [] []
 unfolding learn
 first_entry home from to pos e es x ms = record {
   steps = λ done later.
-      ap
-      (λ z. others home from to pos es
-      (call home (decided from to pos e) (service (at x []) z later)))
-      (sym (append-nil done));
+      ap (λ z. others home from to pos es
+      (call home (decided from to pos e) (service (at x []) z later))) (sym (append-nil done));
   calls = λ more later. refl;
 }
 
@@ -51,10 +41,8 @@ pub goes_to_others : (home : Home) (from to pos : ℕ) (es : List Entry) (y : Se
     (at y ms) [] []
 goes_to_others home from to pos es y ms up = record {
   steps = λ done later.
-      ap
-      (λ z. cond z (service (at y ms) done later)
-      (learn home from to (pos + 1) es (service (at y ms) done later)))
-      up
+      ap (λ z. cond z (service (at y ms) done later)
+      (learn home from to (pos + 1) es (service (at y ms) done later))) up
       ∙ ap (λ z. learn home from to (pos + 1) es (service (at y ms) z later))
       (sym (append-nil done));
   calls = λ more later. refl;
@@ -66,10 +54,8 @@ pub drops_others : (home : Home) (from to pos : ℕ) (es : List Entry) (y : Seen
     → Reaches home (others home from to pos es) (at y ms) (λ s. s) (at y ms) [] []
 drops_others home from to pos es y ms down = record {
   steps = λ done later.
-      ap
-      (λ z. cond z (service (at y ms) done later)
-      (learn home from to (pos + 1) es (service (at y ms) done later)))
-      down
+      ap (λ z. cond z (service (at y ms) done later)
+      (learn home from to (pos + 1) es (service (at y ms) done later))) down
       ∙ ap (λ z. service (at y ms) z later) (sym (append-nil done));
   calls = λ more later. refl;
 }
@@ -99,11 +85,9 @@ unfolding learn
 adds_learn home from to pos [] s = ([], sym (append-nil s.done))
 adds_learn home from to pos (e ∷ es) s =
     adds_both (call home (decided from to pos e))
-    (unless_down (λ t. learn home from to (pos + 1) es t))
-    (adds_call home (decided from to pos e))
+    (unless_down (λ t. learn home from to (pos + 1) es t)) (adds_call home (decided from to pos e))
     (λ t. adds_if_up (λ u. learn home from to (pos + 1) es u) t.seen.is_down t
-    (adds_learn home from to (pos + 1) es))
-    (waits [] s)
+    (adds_learn home from to (pos + 1) es)) (waits [] s)
 
 pub adds_others : (home : Home) (from to pos : ℕ) (es : List Entry)
     → OnlyAdds (others home from to pos es)
@@ -144,8 +128,7 @@ begins home from to pos es queue p a is = (
 pub delivered : {V : Type 0} (way : Way V) (home h : Home) (all : Service → Service)
     (first : Place) (from to pos : ℕ) (e : Entry) (queue es : List Entry) (x y : Seen)
     (ms cleared more : List Message) (answer : NodeAnswer) (a : Outside way) (u v : V)
-    (p : Option (List Push))
-    → h ≡ home → queue ≡ e ∷ es → cleared ≡ []
+    (p : Option (List Push)) → h ≡ home → queue ≡ e ∷ es → cleared ≡ []
     → ComesSo home all first (learn home from to pos queue) (at x ms) a (outside_of way u p)
     → (fate : Fate) → Calls h (decided from to pos e) fate x y cleared more answer
     → IsCall way.handles h (decided from to pos e) fate x u v
@@ -181,8 +164,7 @@ delivered way home h all first from to pos e queue es x y ms cleared more answer
 -- and the next has its turn
 pub next_entry : {V : Type 0} {way : Way V} (home : Home) (all : Service → Service)
     (first : Place) (from to pos : ℕ) (es : List Entry) (y : Seen) (ms : List Message)
-    (a b : Outside way)
-    → y.is_down ≡ false
+    (a b : Outside way) → y.is_down ≡ false
     → ComesSo home all first (others home from to pos es) (at y ms) a b
     → ComesSo home all first (learn home from to (pos + 1) es) (at y ms) a b
 next_entry home all first from to pos es y ms a b up so = (
@@ -200,8 +182,7 @@ next_entry home all first from to pos es y ms a b up so = (
 -- the node is down
 pub ends_down : {V : Type 0} {way : Way V} (home : Home) (all : Service → Service)
     (first : Place) (from to pos : ℕ) (es : List Entry) (y : Seen) (ms : List Message)
-    (a b : Outside way)
-    → y.is_down ≡ true
+    (a b : Outside way) → y.is_down ≡ true
     → ComesSo home all first (others home from to pos es) (at y ms) a b
     → Does home all first (at y ms) a b
 ends_down home all first from to pos es y ms a b down so = (
@@ -218,8 +199,7 @@ ends_down home all first from to pos es y ms a b down so = (
 -- all entries were delivered
 pub ends_all : {V : Type 0} {way : Way V} (home : Home) (all : Service → Service)
     (first : Place) (from to pos : ℕ) (es : List Entry) (y : Seen) (ms : List Message)
-    (a b : Outside way)
-    → es ≡ [] → ComesSo home all first (learn home from to pos es) (at y ms) a b
+    (a b : Outside way) → es ≡ [] → ComesSo home all first (learn home from to pos es) (at y ms) a b
     → Does home all first (at y ms) a b
 ends_all home all first from to pos es y ms a b none so = (
   so.0 ++ [],
@@ -254,8 +234,7 @@ loses_entry way home h all first from to pos e queue es x y ms a u v p same is s
     (others home from to pos es) first (at x []) _ (so.0 ++ [])
     (did_call home event l.0 x ∷ []) (so.1 ++ []) (l.0 ∷ []) y a (outside_of way v p) there
     (lost home (others home from to pos es) event l.0 x y []
-    (subst (λ z. LosesMessages z event l.0 x y) same l.1))
-    (adds_others home from to pos es) refl
+    (subst (λ z. LosesMessages z event l.0 x y) same l.1)) (adds_others home from to pos es) refl
     (makes_then home.hall so.0 (did_call home event l.0 x ∷ []) a (outside_of way u p)
     (outside_of way v p) so.2.made (Makes-call way home h event l.0 x u v p same l.2))
 

@@ -1,96 +1,30 @@
 -- An entry that is handed in, and Start behind it.
-use Rattle.std.proofs.Common.{◌≡◌, refl, sym, ap, subst, ◌∙◌, ℕ, List, [], ◌∷◌, Option, Some}
-use Rattle.std.proofs.Common.{Result, Ok, Err}
-use Rattle.std.proofs.lemmas.List.{append-nil}
-use Rattle.acceptor.specs.declared.entry.Entry.{Entry}
-use Rattle.acceptor.specs.declared.message.Message.{Message}
-use Rattle.learner.specs.declared.event.DeskEvent.{DeskEvent}
-use Rattle.learner.specs.declared.event.DeskEvent.TheVariants.{Submit, Start}
+use Rattle.std.proofs.Common.{◌≡◌, refl, sym, ap, subst, ◌∙◌, List, [], ◌∷◌, Option, Some}
+use Rattle.std.proofs.{Common.Result, Common.Ok, Common.Err, lemmas.List.append-nil}
+use Rattle.acceptor.specs.declared.{entry.Entry.Entry, message.Message.Message}
+use Rattle.learner.specs.declared.event.DeskEvent.{TheVariants.Submit, TheVariants.Start}
 use Rattle.replica.specs.declared.roles.fault.NodeFault.{NodeFault}
-use Rattle.replica.specs.declared.roles.fault.NodeFault.TheVariants as fault
 use Rattle.store.specs.declared.home.Home.{Home}
 use Rattle.wire.specs.declared.frame.FrameBody.{FrameBody}
-use Rattle.wire.specs.declared.frame.FrameBody.TheVariants as what
-use Rattle.serving.specs.Adding.{Push}
+use Rattle.serving.specs.{Adding.Push, model.Requests.AnswersSome, model.Reaching.DoesPart}
 use Rattle.serving.specs.Making.{Way, Outside, outside_of}
-use Rattle.serving.specs.Answering.{answer_of, answer_first}
+use Rattle.serving.specs.{Answering.answer_of, Answering.answer_first, Nodes.Fate, Nodes.reply}
 use Rattle.serving.specs.model.Calling.{Calls, IsCall, LosesMessages}
-use Rattle.serving.specs.model.Requests.{AnswersSome}
 use Rattle.answers.specs.Seen.{Seen}
-use Rattle.serving.specs.Nodes.{Fate, reply}
 use Rattle.serving.specs.model.Reaching.{at, service, Reaches, did_call, OnlyAdds, Did, Does}
-use Rattle.serving.specs.model.Reaching.{DoesPart}
-use Rattle.serving.specs.Serving.{Service, call, push_all}
-use Rattle.serving.specs.Serving.{entered_by, enter, waiting_after}
-use Rattle.serving.specs.declared.calls.NodeAnswer.{NodeAnswer}
+use Rattle.serving.specs.Serving.{Service, call, push_all, entered_by, enter, waiting_after}
+use Rattle.serving.specs.declared.{calls.NodeAnswer.NodeAnswer, request.Request.TheVariants.Entered}
 use Rattle.serving.specs.declared.calls.NodeAnswer.TheVariants.{Taken, Refused}
-use Rattle.serving.specs.declared.request.Request.TheVariants.{Entered}
 use Rattle.serving.proofs.Additions.{adds_both, adds_call, adds_push}
-use Rattle.serving.proofs.Makings.{Makes-nil, Makes-trans, Makes-call}
-use Rattle.serving.proofs.Parts.{part_of, part_call}
-use Rattle.serving.proofs.Reached.{stays, goes_on, calls_once}
-use Rattle.serving.proofs.Answered.{took, took_calls, answers_by}
+use Rattle.serving.proofs.Makings.{Makes-trans, Makes-call}
+use Rattle.serving.proofs.{Parts.part_of, Reached.goes_on, Reached.calls_once}
+use Rattle.serving.proofs.{Answered.took, Answered.took_calls, Answered.answers_by}
+use Rattle.replica.specs.declared.roles.fault.NodeFault.TheVariants as fault
+use Rattle.wire.specs.declared.frame.FrameBody.TheVariants as what
 
 -- Start and all that comes of it
 abbrev pub starts : Home → Service → Service
 starts home s = push_all (call home Start s)
-
--- a call behind messages that wait, and then all that comes of them
-pub does_behind : {V : Type 0} (way : Way V) (home h : Home) (x y z : Seen) (event : DeskEvent)
-    (ms more rest : List Message) (answer : NodeAnswer) (u v : V)
-    (p : Option (List Push)) (b : Outside way)
-    → h ≡ home
-    → (fate : Fate) → Calls h event fate x y ms more answer → IsCall way.handles h event fate x u v
-    → Does home push_all (at y more) (at z rest) (outside_of way v p) b
-    → Does home (λ s. push_all (call home event s)) (at x ms) (at z rest)
-    (outside_of way u p) b
-does_behind way home h x y z event ms more rest answer u v p b same fate c made d =
-    let e = subst (λ u. Calls u event fate x y ms more answer) same c in (
-      did_call home event fate x ∷ d.0,
-      fate ∷ d.1,
-      record {
-        reaches =
-            goes_on home _ _ _ _ _ _ (did_call home event fate x ∷ []) d.0 (fate ∷ []) d.1
-            (calls_once home push_all event fate x y ms more answer e)
-            d.2.reaches;
-        made =
-            Makes-trans home.hall (outside_of way u p) (outside_of way v p) b
-            (did_call home event fate x ∷ []) d.0
-            (Makes-call way home h event fate x u v p same made) d.2.made;
-      },
-    )
-
--- memory was refused in the call, or in what comes of it
-pub part_at_behind : {V : Type 0} (way : Way V) (home h : Home) (x y : Seen) (event : DeskEvent)
-    (ms : List Message) (u v : V) (p : Option (List Push))
-    → h ≡ home
-    → (fate : Fate) × LosesMessages h event fate x y × IsCall way.handles h event fate x u v
-    → DoesPart home (λ s. push_all (call home event s)) (at x ms) y
-    (outside_of way u p) (outside_of way v p)
-part_at_behind way home h x y event ms u v p same l =
-    part_call way home h (λ s. push_all (call home event s)) (at x ms)
-    event x y ms [] [] (outside_of way u p) u v p same
-    (stays home (λ s. push_all (call home event s)) (at x ms))
-    (Makes-nil home.hall (outside_of way u p)) l
-
-pub part_after_behind : {V : Type 0} (way : Way V) (home h : Home) (x y shown : Seen)
-    (event : DeskEvent) (ms more : List Message) (answer : NodeAnswer) (u v : V)
-    (p : Option (List Push)) (b : Outside way)
-    → h ≡ home
-    → (fate : Fate) → Calls h event fate x y ms more answer → IsCall way.handles h event fate x u v
-    → DoesPart home push_all (at y more) shown (outside_of way v p) b
-    → DoesPart home (λ s. push_all (call home event s)) (at x ms) shown
-    (outside_of way u p) b
-part_after_behind way home h x y shown event ms more answer u v p b same fate c made d =
-    let e = subst (λ u. Calls u event fate x y ms more answer) same c in
-    part_of home (λ s. push_all (call home event s)) push_all d.2
-    (at x ms) (at y more) d.3 (did_call home event fate x ∷ []) d.0 (fate ∷ []) d.1 shown
-    (outside_of way u p) b
-    (calls_once home push_all event fate x y ms more answer e) d.4.reaches
-    d.4.adds d.4.last
-    (Makes-trans home.hall (outside_of way u p) (outside_of way v p) b
-    (did_call home event fate x ∷ []) d.0 (Makes-call way home h event fate x u v p same made)
-    d.4.made)
 
 -- what the node answered, from what is seen of it
 taken_of : (r : Result (List Message) NodeFault) → answer_of r ≡ Taken
@@ -103,42 +37,18 @@ refused_of : (r : Result (List Message) NodeFault) → (answer_of r ≡ Taken �
 refused_of (Ok ms) e = absurd (e refl)
 refused_of (Err why) e = (why, refl)
 
--- the entry was taken, and Start is to follow
-enters : (home : Home) (e : Entry) (fate : Fate) (x y : Seen) (more ms : List Message)
-    (answer : NodeAnswer)
-    → Calls home (Submit e) fate x y [] more answer → (reply home x (Submit e) fate).result ≡ Ok ms
-    → Reaches home (enter home e) (at x []) (starts home) (at y more)
-    (did_call home (Submit e) fate x ∷ [])
-    (fate ∷ [])
+-- the entry was taken, and Start is to follow, or it was refused
+enters : (home : Home) (e : Entry) (fate : Fate) (x y : Seen) (more : List Message)
+    (r : Result (List Message) NodeFault) (answer : NodeAnswer)
+    → Calls home (Submit e) fate x y [] more answer → (reply home x (Submit e) fate).result ≡ r
+    → Reaches home (enter home e) (at x []) (λ s. entered_by home r s) (at y more)
+    (did_call home (Submit e) fate x ∷ []) (fate ∷ [])
 unfolding enter call
-enters home e fate x y more ms answer c is =
-    let once =
-    calls_once home (λ s. push_all (call home Start s)) (Submit e) fate x y [] more answer
-    c in
+enters home e fate x y more r answer c is =
+    let once = calls_once home (entered_by home r) (Submit e) fate x y [] more answer c in
     record {
       steps = λ done later.
-          ap
-          (λ z. entered_by home z (call home (Submit e) (service (at x []) done (fate ∷ later))))
-          is
-          ∙ once.steps done later;
-      calls = once.calls;
-    }
-
--- the entry was refused
-stays_out : (home : Home) (e : Entry) (fate : Fate) (x y : Seen) (more : List Message)
-    (why : NodeFault) (answer : NodeAnswer)
-    → Calls home (Submit e) fate x y [] more answer
-    → (reply home x (Submit e) fate).result ≡ Err why
-    → Reaches home (enter home e) (at x []) (λ s. s) (at y more)
-    (did_call home (Submit e) fate x ∷ [])
-    (fate ∷ [])
-unfolding enter call
-stays_out home e fate x y more why answer c is =
-    let once = calls_once home (λ s. s) (Submit e) fate x y [] more answer c in
-    record {
-      steps = λ done later.
-          ap
-          (λ z. entered_by home z (call home (Submit e) (service (at x []) done (fate ∷ later))))
+          ap (λ z. entered_by home z (call home (Submit e) (service (at x []) done (fate ∷ later))))
           is
           ∙ once.steps done later;
       calls = once.calls;
@@ -146,49 +56,36 @@ stays_out home e fate x y more why answer c is =
 
 adds_entered : (home : Home) (r : Result (List Message) NodeFault) → OnlyAdds (entered_by home r)
 adds_entered home (Ok ms) s =
-    adds_both (call home Start) push_all (adds_call home Start)
-    adds_push s
+    adds_both (call home Start) push_all (adds_call home Start) adds_push s
 adds_entered home (Err why) s = ([], sym (append-nil s.done))
 
 -- memory was refused in the call that hands the entry in
-enters_part : {V : Type 0} (way : Way V) (home h : Home) (e : Entry) (fate : Fate) (x y : Seen)
-    (u v : V) (p : Option (List Push))
-    → h ≡ home → LosesMessages home (Submit e) fate x y → IsCall way.handles h (Submit e) fate x u v
-    → DoesPart home (enter home e) (at x []) y (outside_of way u p) (outside_of way v p)
-unfolding enter
-enters_part way home h e fate x y u v p same l made =
-    let r = reply home x (Submit e) fate in
-    let once =
-    calls_once home (entered_by home r.result) (Submit e) fate x y [] (waiting_after [] r.result)
-    (answer_of r.result)
-    (record { answer_is = refl; seen = l.seen; waits = refl }) in (
-      did_call home (Submit e) fate x ∷ [],
-      fate ∷ [],
-      entered_by home r.result,
-      at y (waiting_after [] r.result),
-      record {
-        reaches = record { steps = once.steps; calls = once.calls };
-        adds = adds_entered home r.result;
-        last = refl;
-        made = Makes-call way home h (Submit e) fate x u v p same made;
-      },
-    )
-
 pub entered_lost : {V : Type 0} (way : Way V) (home h : Home) (e : Entry) (x y : Seen) (u v : V)
-    (p : Option (List Push))
-    → h ≡ home
+    (p : Option (List Push)) → h ≡ home
     → (fate : Fate) × LosesMessages h (Submit e) fate x y × IsCall way.handles h
     (Submit e) fate x u v
     → DoesPart home (enter home e) (at x []) y (outside_of way u p) (outside_of way v p)
 entered_lost way home h e x y u v p same l =
-    enters_part way home h e l.0 x y u v p same
-    (subst (λ z. LosesMessages z (Submit e) l.0 x y) same l.1) l.2
+    let k = subst (λ z. LosesMessages z (Submit e) l.0 x y) same l.1 in
+    let r = (reply home x (Submit e) l.0).result in (
+      did_call home (Submit e) l.0 x ∷ [],
+      l.0 ∷ [],
+      entered_by home r,
+      at y (waiting_after [] r),
+      record {
+        reaches =
+            enters home e l.0 x y (waiting_after [] r) r (answer_of r)
+            (record { answer_is = refl; seen = k.seen; waits = refl }) refl;
+        adds = adds_entered home r;
+        last = refl;
+        made = Makes-call way home h (Submit e) l.0 x u v p same l.2;
+      },
+    )
 
 -- memory was refused behind it
 pub entered_part : {V : Type 0} (way : Way V) (home h : Home) (e : Entry) (x y shown : Seen)
     (ms more : List Message) (answer : NodeAnswer) (u v : V) (p : Option (List Push))
-    (b : Outside way)
-    → h ≡ home → ms ≡ [] → answer ≡ Taken
+    (b : Outside way) → h ≡ home → ms ≡ [] → answer ≡ Taken
     → (fate : Fate) × Calls h (Submit e) fate x y ms more answer
     × IsCall way.handles h (Submit e) fate x u v
     → DoesPart home (starts home) (at y more) shown (outside_of way v p) b
@@ -201,15 +98,14 @@ entered_part way home h e x y shown ms more answer u v p b same none taken calle
     let first = did_call home (Submit e) called.0 x ∷ [] in
     part_of home (enter home e) (starts home) d.2 (at x []) (at y more) d.3 first d.0
     (called.0 ∷ []) d.1 shown (outside_of way u p) b
-    (enters home e called.0 x y more ok.0 answer c ok.1) d.4.reaches d.4.adds d.4.last
+    (enters home e called.0 x y more (Ok ok.0) answer c ok.1) d.4.reaches d.4.adds d.4.last
     (Makes-trans home.hall (outside_of way u p) (outside_of way v p) b first d.0
     (Makes-call way home h (Submit e) called.0 x u v p same called.2) d.4.made)
 
 -- the entry was taken, and all that comes of it done
 pub entered_all : {V : Type 0} (way : Way V) (home h : Home) (e : Entry) (x y z : Seen)
     (ms more rest : List Message) (answer : NodeAnswer) (w : FrameBody) (u v : V)
-    (p : Option (List Push)) (b : Outside way)
-    → h ≡ home → ms ≡ [] → rest ≡ [] → answer ≡ Taken
+    (p : Option (List Push)) (b : Outside way) → h ≡ home → ms ≡ [] → rest ≡ [] → answer ≡ Taken
     → (fate : Fate) × Calls h (Submit e) fate x y ms more answer
     × IsCall way.handles h (Submit e) fate x u v
     → Does home (starts home) (at y more) (at z rest) (outside_of way v p) b
@@ -230,7 +126,7 @@ entered_all way home h e x y z ms more rest answer w u v p b same none empty tak
     let reaches =
     goes_on home (enter home e) (starts home) (λ s. s) (at x []) (at y more) (at z [])
     (first ∷ []) does.0 (called.0 ∷ []) does.1
-    (enters home e called.0 x y more ok.0 answer c ok.1) d.reaches in
+    (enters home e called.0 x y more (Ok ok.0) answer c ok.1) d.reaches in
     let all =
     took home (enter home e) x z (first ∷ does.0) (called.0 ∷ does.1) reaches in (
       called.0 ∷ does.1,
@@ -252,19 +148,14 @@ entered_all way home h e x y z ms more rest answer w u v p b same none empty tak
 
 none_wait : (why : NodeFault) → waiting_after [] (Err why) ≡ []
 none_wait fault.Busy = refl
-none_wait fault.LogFull = refl
-none_wait fault.BallotsSpent = refl
-none_wait fault.NoMemory = refl
-none_wait fault.Down = refl
+none_wait _ = refl
 
 -- the entry was refused
 pub entered_not : {V : Type 0} (way : Way V) (home h : Home) (e : Entry) (x y : Seen)
     (ms more : List Message) (answer : NodeAnswer) (w : FrameBody) (u v : V)
-    (p : Option (List Push))
-    → h ≡ home → ms ≡ [] → (answer ≡ Taken → ⊥)
+    (p : Option (List Push)) → h ≡ home → ms ≡ [] → (answer ≡ Taken → ⊥)
     → (fate : Fate) × Calls h (Submit e) fate x y ms more answer
-    × IsCall way.handles h (Submit e) fate x u v
-    → w ≡ answer_first (what.Taken e.id) answer y
+    × IsCall way.handles h (Submit e) fate x u v → w ≡ answer_first (what.Taken e.id) answer y
     → AnswersSome home x y (Entered e) (Some w) (outside_of way u p) (outside_of way v p)
 entered_not way home h e x y ms more answer w u v p same none other called is =
     let c =
@@ -274,12 +165,9 @@ entered_not way home h e x y ms more answer w u v p same none other called is =
     let empty = c.waits ∙ ap (waiting_after []) err.1 ∙ none_wait err.0 in
     let first = did_call home (Submit e) called.0 x ∷ [] in
     let reaches =
-    subst
-    (λ u.
-    Reaches home (enter home e) (at x []) (λ s. s) (at y u) first
-    (called.0 ∷ []))
-    empty
-    (stays_out home e called.0 x y more err.0 answer c err.1) in
+    subst (λ u.
+    Reaches home (enter home e) (at x []) (λ s. s) (at y u) first (called.0 ∷ [])) empty
+    (enters home e called.0 x y more (Err err.0) answer c err.1) in
     let all = took home (enter home e) x y first (called.0 ∷ []) reaches in (
       called.0 ∷ [],
       answers_by home (Entered e) x y first (called.0 ∷ []) (Some w) (outside_of way u p)

@@ -3,26 +3,19 @@ use Rattle.std.proofs.Common.{◌≡◌, refl, sym, ap, subst, ◌∙◌, ◌↔
 use Rattle.std.proofs.Common.{◌∷◌, ◌++◌, Result, Ok, Err}
 use Rattle.acceptor.specs.declared.message.Message.{Message}
 use Rattle.proposer.specs.declared.fault.Refusal.{Refusal}
-use Rattle.proposer.specs.declared.fault.Refusal.TheVariants as refusal
-use Rattle.learner.specs.declared.event.DeskEvent.{DeskEvent}
-use Rattle.learner.specs.Desks.{Desk}
-use Rattle.learner.specs.Ranges.{AreInRange}
+use Rattle.learner.specs.{declared.event.DeskEvent.DeskEvent, Desks.Desk, Ranges.AreInRange}
 use Rattle.learner.specs.Steps.{Done, step}
-use Rattle.serving.specs.Making.{Handling}
+use Rattle.serving.specs.{Making.Handling, declared.calls.NodeAnswer.NodeAnswer}
 use Rattle.serving.specs.model.Calling.{Calls, IsCall, LosesMessages}
-use Rattle.serving.specs.declared.calls.NodeAnswer.{NodeAnswer}
-use Rattle.serving.specs.Answering.{answer_of}
-use Rattle.serving.specs.Serving.{waiting_after}
+use Rattle.serving.specs.{Answering.answer_of, Serving.waiting_after}
 use Rattle.store.specs.declared.home.Home.{Home}
-use Rattle.replica.specs.declared.roles.fault.NodeFault.{NodeFault}
+use Rattle.replica.specs.{declared.roles.fault.NodeFault.NodeFault, roles.Faults.refused_as}
 use Rattle.replica.specs.declared.roles.fault.NodeFault.TheVariants.{Busy, LogFull, BallotsSpent}
-use Rattle.replica.specs.declared.roles.fault.NodeFault.TheVariants.{NoMemory}
-use Rattle.replica.specs.declared.roles.fault.NodeFault.TheVariants.{Down}
-use Rattle.replica.specs.roles.Faults.{refused_as}
-use Rattle.replica.specs.Handles.{Takes}
-use Rattle.replica.specs.Lengths.{told_by, told_after}
+use Rattle.replica.specs.declared.roles.fault.NodeFault.TheVariants.{NoMemory, Down}
+use Rattle.replica.specs.{Handles.Takes, Lengths.told_by, Lengths.told_after}
 use Rattle.answers.specs.Seen.{Seen}
 use Rattle.serving.specs.Nodes.{Fate, Goes, Starves, Breaks, by_step, reply}
+use Rattle.proposer.specs.declared.fault.Refusal.TheVariants as refusal
 
 abbrev at : Desk → Bool → List ℕ → Seen
 at x b t = record { desk = x; is_down = b; told = t }
@@ -94,8 +87,7 @@ comes_up home x told event Down up t = absurd (up refl)
 -- what is known of a call of `handle`
 record Known (home : Home) (event : DeskEvent) (x y : Desk) (a b : Bool) (t u : List ℕ)
     (r : Result (List Message) NodeFault) : Type 0 where
-  pub takes : a ≡ false
-      → Takes (step home.desks home.desk x event) home.desks home.desk x y r
+  pub takes : a ≡ false → Takes (step home.desks home.desk x event) home.desks home.desk x y r
   pub ended : a ≡ true → (r ≡ failed Down) × (at y b u ≡ at x a t)
   pub told : u ≡ told_after home event r t
   pub down : (r ≡ failed Down) ↔ (b ≡ true)
@@ -105,8 +97,7 @@ comes_err : (home : Home) (x y : Desk) (told : List ℕ) (event : DeskEvent) (fa
     → Takes (step home.desks home.desk x event) home.desks home.desk x y (Err fault)
     → ComesSome home event (at x false told) (at y false told) (failed fault)
 comes_err home x y told event fault up t =
-    subst (λ z. ComesSome home event (at x false told) (at z false told) (failed fault))
-    (sym t.err)
+    subst (λ z. ComesSome home event (at x false told) (at z false told) (failed fault)) (sym t.err)
     (comes_up home x told event fault up
     (subst (λ z. Takes (step home.desks home.desk x event) home.desks home.desk x z (Err fault))
     t.err t))
@@ -120,8 +111,7 @@ comes_down home x y told event t =
 
 -- what was told after it is what the answer says
 comes_told : (home : Home) (event : DeskEvent) (x y : Desk) (a b : Bool) (t u v : List ℕ)
-    (r : Result (List Message) NodeFault)
-    → u ≡ v → ComesSome home event (at x a t) (at y b v) r
+    (r : Result (List Message) NodeFault) → u ≡ v → ComesSome home event (at x a t) (at y b v) r
     → ComesSome home event (at x a t) (at y b u) r
 comes_told home event x y a b t u v r is h =
     subst (λ z. ComesSome home event (at x a t) (at y b z) r) (sym is) h
@@ -142,34 +132,17 @@ comes_either home event x y false true t u (Err Down) k =
     (comes_down home x y t event (k.takes refl))
 comes_either home event x y false false t u (Err Down) k =
     absurd (let e : false ≡ true = k.down.0 refl in cc)
-comes_either home event x y false false t u (Err Busy) k =
-    comes_told home event x y false false t u t (Err Busy) k.told
-    (comes_err home x y t event Busy (λ e. cc) (k.takes refl))
-comes_either home event x y false false t u (Err LogFull) k =
-    comes_told home event x y false false t u t (Err LogFull) k.told
-    (comes_err home x y t event LogFull (λ e. cc) (k.takes refl))
-comes_either home event x y false false t u (Err BallotsSpent) k =
-    comes_told home event x y false false t u t (Err BallotsSpent) k.told
-    (comes_err home x y t event BallotsSpent (λ e. cc) (k.takes refl))
-comes_either home event x y false false t u (Err NoMemory) k =
-    comes_told home event x y false false t u t (Err NoMemory) k.told
-    (comes_err home x y t event NoMemory (λ e. cc) (k.takes refl))
-comes_either home event x y false true t u (Err Busy) k =
-    absurd (let e : failed Busy ≡ failed Down = k.down.1 refl in cc)
-comes_either home event x y false true t u (Err LogFull) k =
-    absurd (let e : failed LogFull ≡ failed Down = k.down.1 refl in cc)
-comes_either home event x y false true t u (Err BallotsSpent) k =
-    absurd (let e : failed BallotsSpent ≡ failed Down = k.down.1 refl in cc)
-comes_either home event x y false true t u (Err NoMemory) k =
-    absurd (let e : failed NoMemory ≡ failed Down = k.down.1 refl in cc)
+comes_either home event x y false false t u (Err fault) k =
+    comes_told home event x y false false t u t (Err fault) k.told
+    (comes_err home x y t event fault (λ e. cc) (k.takes refl))
+comes_either home event x y false true t u (Err fault) k =
+    absurd (let e : failed fault ≡ failed Down = k.down.1 refl in cc)
 
 comes : (home : Home) (x y : Seen) (event : DeskEvent) (r : Result (List Message) NodeFault)
     → (x.is_down ≡ false
     → Takes (step home.desks home.desk x.desk event) home.desks home.desk x.desk y.desk r)
-    → (x.is_down ≡ true → (r ≡ failed Down) × (y ≡ x))
-    → y.told ≡ told_after home event r x.told
-    → (r ≡ failed Down) ↔ (y.is_down ≡ true)
-    → (fate : Fate) × Comes home event fate x y r
+    → (x.is_down ≡ true → (r ≡ failed Down) × (y ≡ x)) → y.told ≡ told_after home event r x.told
+    → (r ≡ failed Down) ↔ (y.is_down ≡ true) → (fate : Fate) × Comes home event fate x y r
 unfolding ComesSome
 comes home x y event r t e told d =
     comes_either home event x.desk y.desk x.is_down y.is_down x.told y.told r
@@ -180,8 +153,7 @@ pub calls_so : {V : Type 0} (way : Handling V) (home : Home) (x y : Seen) (event
     (r : Result (List Message) NodeFault) (ms more : List Message) (answer : NodeAnswer) (u v : V)
     → (x.is_down ≡ false
     → Takes (step home.desks home.desk x.desk event) home.desks home.desk x.desk y.desk r)
-    → (x.is_down ≡ true → (r ≡ failed Down) × (y ≡ x))
-    → y.told ≡ told_after home event r x.told
+    → (x.is_down ≡ true → (r ≡ failed Down) × (y ≡ x)) → y.told ≡ told_after home event r x.told
     → (r ≡ failed Down) ↔ (y.is_down ≡ true)
     → way u event r v → answer ≡ answer_of r → more ≡ waiting_after ms r
     → (fate : Fate) × Calls home event fate x y ms more answer × IsCall way home event fate x u v
@@ -198,13 +170,10 @@ calls_so way home x y event r ms more answer u v t e told d made is waits =
 
 -- the call, whose messages were lost
 pub loses_so : {V : Type 0} (way : Handling V) (home : Home) (x y : Seen) (event : DeskEvent)
-    (r : Result (List Message) NodeFault) (u v : V)
-    → (x.is_down ≡ false
+    (r : Result (List Message) NodeFault) (u v : V) → (x.is_down ≡ false
     → Takes (step home.desks home.desk x.desk event) home.desks home.desk x.desk y.desk r)
-    → (x.is_down ≡ true → (r ≡ failed Down) × (y ≡ x))
-    → y.told ≡ told_after home event r x.told
-    → (r ≡ failed Down) ↔ (y.is_down ≡ true)
-    → way u event r v
+    → (x.is_down ≡ true → (r ≡ failed Down) × (y ≡ x)) → y.told ≡ told_after home event r x.told
+    → (r ≡ failed Down) ↔ (y.is_down ≡ true) → way u event r v
     → (fate : Fate) × LosesMessages home event fate x y × IsCall way home event fate x u v
 loses_so way home x y event r u v t e told d made =
     let f = comes home x y event r t e told d in
@@ -213,8 +182,5 @@ loses_so way home x y event r u v t e told d made =
 -- a refusal other than Down leaves the messages that wait
 pub keeps_waiting : (ms : List Message) (why : NodeFault) → (why ≡ Down → ⊥)
     → ms ≡ waiting_after ms (Err why)
-keeps_waiting ms Busy other = refl
-keeps_waiting ms LogFull other = refl
-keeps_waiting ms BallotsSpent other = refl
-keeps_waiting ms NoMemory other = refl
 keeps_waiting ms Down other = absurd (other refl)
+keeps_waiting ms _ other = refl

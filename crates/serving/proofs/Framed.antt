@@ -1,19 +1,13 @@
 -- A message in its ranges is a frame in its ranges.
 use Rattle.std.proofs.Common.{◌≡◌, refl, nat_lt, true, false, Bool, ◌&&◌, ℕ, ◌≤◌, ◌<◌, ◌^◌, None}
-use Rattle.std.proofs.Common.{Some, arith}
-use Rattle.std.proofs.lemmas.Bool.{ltb-true, leb-true}
-use Rattle.acceptor.specs.declared.ballot.Ballot.{Ballot}
-use Rattle.acceptor.specs.declared.message.Body.{Body}
-use Rattle.acceptor.specs.declared.message.Body.TheVariants.{Prepare, Promise, Accept, Accepted}
-use Rattle.acceptor.specs.declared.message.Body.TheVariants.{Nack, Behind, Decided}
-use Rattle.acceptor.specs.declared.message.Message.{Message}
-use Rattle.learner.specs.Ranges.{IsInRange}
-use Rattle.learner.specs.Steps.{is_real, is_in_range}
-use Rattle.wire.specs.declared.values.Version.{Version}
-use Rattle.wire.specs.declared.values.Version.TheVariants.{One, Two, Three, Four, Five}
+use Rattle.std.proofs.{Common.Some, Common.arith, lemmas.Bool.ltb-true, lemmas.Bool.leb-true}
+use Rattle.acceptor.specs.declared.{ballot.Ballot.Ballot, message.Body.TheVariants.Accepted}
+use Rattle.acceptor.specs.declared.message.{Body.Body, Body.TheVariants.Promise, Message.Message}
+use Rattle.acceptor.specs.declared.message.Body.TheVariants.{Prepare, Accept, Nack, Behind, Decided}
+use Rattle.learner.specs.{Ranges.IsInRange, Steps.is_real, Steps.is_in_range}
+use Rattle.wire.specs.declared.values.Version.{Version, TheVariants.One}
 use Rattle.wire.specs.Ranges.{IsCount, IsFrame, IsBody, IsBallot, IsPosition, IsDesk, Goes, way_of}
-use Rattle.serving.specs.model.Framing.{IsTyped}
-use Rattle.serving.specs.Serving.{what_of, framed}
+use Rattle.serving.specs.{model.Framing.IsTyped, Serving.what_of, Serving.framed}
 
 both : (a b : Bool) → (a && b) ≡ true → (a ≡ true) × (b ≡ true)
 both true b h = (refl, h)
@@ -31,10 +25,7 @@ is_position pos h = omega (arith, ltb-true _ _ h)
 -- one entry is good in each version
 one_is : (v : Version) → IsCount v 1
 one_is One = refl
-one_is Two = (omega arith, omega arith)
-one_is Three = (omega arith, omega arith)
-one_is Four = (omega arith, omega arith)
-one_is Five = (omega arith, omega arith)
+one_is _ = (omega arith, omega arith)
 
 is_body : (v : Version) (n : ℕ) (b : Body) → n ≤ 5 → is_in_range n b ≡ true → IsTyped b
     → IsBody v (what_of b)
@@ -61,16 +52,10 @@ is_body v n (Decided pos e) few h t =
 goes : (n : ℕ) (b : Body) (from to : ℕ) → IsDesk from → IsDesk to
     → Goes (way_of (what_of b)) from to
 goes n (Prepare b pos) from to x y = (x, y)
-goes n (Promise b pos v) from to x y = (x, y)
-goes n (Accept b pos e) from to x y = (x, y)
-goes n (Accepted b pos) from to x y = (x, y)
-goes n (Nack b pos q) from to x y = (x, y)
-goes n (Behind len) from to x y = (x, y)
-goes n (Decided pos e) from to x y = (x, y)
+goes n _ from to x y = (x, y)
 
 pub is_frame : (v : Version) (hall n : ℕ) (m : Message) → hall < 2 ^ 32 → n ≤ 5 → IsInRange n m
-    → IsTyped m.body
-    → IsFrame (framed v hall m)
+    → IsTyped m.body → IsFrame (framed v hall m)
 is_frame v hall n m small few h t =
     record {
       hall = small;

@@ -4,15 +4,12 @@ use Rattle.std.proofs.lemmas.List.{append-nil}
 use Rattle.acceptor.specs.declared.message.Message.{Message}
 use Rattle.learner.specs.declared.event.DeskEvent.{DeskEvent}
 use Rattle.store.specs.declared.home.Home.{Home}
-use Rattle.serving.specs.Adding.{Push, Hands}
+use Rattle.serving.specs.{Adding.Push, Adding.Hands, Nodes.Fate, Telling.run_pushed}
 use Rattle.wire.specs.declared.values.Version.{Version}
 use Rattle.serving.specs.Making.{Handling, Way, Call, calls_of, Lead, Outside, outside_of, Makes}
 use Rattle.answers.specs.Seen.{Seen}
-use Rattle.serving.specs.Nodes.{Fate}
-use Rattle.serving.specs.Telling.{run_pushed}
 use Rattle.serving.specs.Serving.{Act, Called, Pushed, Answered, pushed, pushes_of}
-use Rattle.serving.specs.model.Calling.{IsCall}
-use Rattle.serving.specs.model.Reaching.{did_call}
+use Rattle.serving.specs.model.{Calling.IsCall, Reaching.did_call}
 use Rattle.serving.proofs.Handing.{Hands-nil, Hands-trans}
 
 pushes_of_map : (v : Version) (hall : ℕ) (ms : List Message)
@@ -57,8 +54,7 @@ Makes-trans {V} {way} hall a b c xs ys h k = record {
   pushes =
       subst (λ z. Hands a.handed c.handed z) (sym (pushes_of_both way.wire hall xs ys))
       (Hands-trans a.handed b.handed c.handed (pushes_of way.wire hall xs)
-      (pushes_of way.wire hall ys) h.pushes
-      k.pushes);
+      (pushes_of way.wire hall ys) h.pushes k.pushes);
 }
 
 pub makes_then : {V : Type 0} {way : Way V} (hall : ℕ) (xs ys : List Act) (a b c : Outside way)
@@ -80,9 +76,7 @@ Makes-pushes {V} {way} hall a u b c acts ms h k =
 
 -- a call hands nothing over
 pub Makes-call : {V : Type 0} (way : Way V) (home h : Home) (event : DeskEvent) (fate : Fate)
-    (x : Seen)
-    (u v : V) (p : Option (List Push))
-    → h ≡ home → IsCall way.handles h event fate x u v
+    (x : Seen) (u v : V) (p : Option (List Push)) → h ≡ home → IsCall way.handles h event fate x u v
     → Makes home.hall (outside_of way u p) (outside_of way v p) (did_call home event fate x ∷ [])
 Makes-call way home h event fate x u v p same made = record {
   calls = (v, subst (λ z. IsCall way.handles z event fate x u v) same made, refl);

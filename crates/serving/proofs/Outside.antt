@@ -3,24 +3,17 @@ use Rattle.std.proofs.Common.{◌≡◌, refl, sym, ap, subst, ◌∙◌, false,
 use Rattle.std.proofs.Common.{None, Some}
 use Rattle.answers.specs.Seen.{Seen}
 use Rattle.store.specs.declared.home.Home.{Home}
-use Rattle.wire.specs.declared.frame.Frame.{Frame}
-use Rattle.wire.specs.declared.frame.FrameBody.TheVariants as what
-use Rattle.wire.specs.declared.values.ClientRefusal.TheVariants as refusal
-use Rattle.wire.specs.declared.values.Version.{Version}
-use Rattle.wire.specs.declared.values.Version.TheVariants.{One, Two, Three, Four, Five}
-use Rattle.wire.specs.declared.standing.Difference.{Difference}
-use Rattle.serving.specs.declared.permission.Permission.{Permission}
-use Rattle.serving.specs.declared.request.Request.{Request}
-use Rattle.serving.specs.declared.request.Request.TheVariants.{Heard, Lagging, Learned, Entered}
-use Rattle.serving.specs.declared.request.Request.TheVariants.{Asked, Printed, Ticked, Stopped}
-use Rattle.serving.specs.declared.request.Request.TheVariants.{Inspected, Copied, Strange, Ignored}
-use Rattle.serving.specs.declared.request.Request.TheVariants.{Denied, Withheld}
-use Rattle.serving.specs.Asking.{request}
+use Rattle.wire.specs.declared.{frame.Frame.Frame, standing.Difference.Difference}
+use Rattle.wire.specs.declared.values.Version.{Version, TheVariants.One}
+use Rattle.serving.specs.declared.{permission.Permission.Permission, request.Request.Request}
+use Rattle.serving.specs.declared.request.Request.TheVariants.{Heard, Lagging, Learned, Denied}
+use Rattle.serving.specs.{Asking.request, Differing.withheld, Differing.withheld_by}
 use Rattle.serving.specs.Connection.{Begun, Outcome, answer_frame, asked, framed_answer}
 use Rattle.serving.specs.Connection.{serve_frame, serve_request}
 use Rattle.serving.specs.OutsideLaw.{OutsideCallsNothing, TurnsAway, not_allowed, turned_away_by}
-use Rattle.serving.specs.Differing.{withheld, withheld_by}
 use Rattle.serving.specs.Permissions.{permitted, turned_away}
+use Rattle.wire.specs.declared.frame.FrameBody.TheVariants as what
+use Rattle.wire.specs.declared.values.ClientRefusal.TheVariants as refusal
 
 -- what an outcome is where nothing is called
 record Quiet (x : Seen) (answers : List Frame) (o : Outcome) : Type 0 where
@@ -33,10 +26,7 @@ denied_in : (version : Version) (home : Home)
     → framed_answer version home (Some (what.Refused refusal.NotAllowed))
     ≡ answer_frame version home (what.Refused refusal.NotAllowed) ∷ []
 denied_in One home = refl
-denied_in Two home = refl
-denied_in Three home = refl
-denied_in Four home = refl
-denied_in Five home = refl
+denied_in _ home = refl
 
 denied : (home : Home) (x : Seen) (b : Begun)
     → Quiet x (not_allowed home b) (serve_request b.frame.version home x b.fates Denied)
@@ -48,8 +38,7 @@ denied home x b =
     }
 
 -- what is turned away calls nothing
-quiet : (home : Home) (x : Seen) (b : Begun) (r : Request)
-    → Quiet x (turned_away_by home b r)
+quiet : (home : Home) (x : Seen) (b : Begun) (r : Request) → Quiet x (turned_away_by home b r)
     (serve_request b.frame.version home x b.fates (turned_away r))
 quiet home x b (Heard m) =
     record { calls_nothing = refl; unchanged = refl; answered = refl }
@@ -57,34 +46,12 @@ quiet home x b (Lagging m) =
     record { calls_nothing = refl; unchanged = refl; answered = refl }
 quiet home x b (Learned run) =
     record { calls_nothing = refl; unchanged = refl; answered = refl }
-quiet home x b (Entered e) = denied home x b
-quiet home x b (Asked id) = denied home x b
-quiet home x b (Printed event round position style) = denied home x b
-quiet home x b (Inspected differs) = denied home x b
-quiet home x b (Copied position) = denied home x b
-quiet home x b Ticked = denied home x b
-quiet home x b Stopped = denied home x b
-quiet home x b Strange = denied home x b
-quiet home x b Ignored = denied home x b
-quiet home x b Denied = denied home x b
-quiet home x b Withheld = denied home x b
+quiet home x b _ = denied home x b
 
 -- whatever differs, what is turned away stays so
 stays_by : (d : Difference) (r : Request) → withheld_by d (turned_away r) ≡ turned_away r
 stays_by d (Heard m) = refl
-stays_by d (Lagging m) = refl
-stays_by d (Learned run) = refl
-stays_by d (Entered e) = refl
-stays_by d (Asked id) = refl
-stays_by d (Printed event round position style) = refl
-stays_by d (Inspected other) = refl
-stays_by d (Copied position) = refl
-stays_by d Ticked = refl
-stays_by d Stopped = refl
-stays_by d Strange = refl
-stays_by d Ignored = refl
-stays_by d Denied = refl
-stays_by d Withheld = refl
+stays_by d _ = refl
 
 stays : (differs : Option Difference) (r : Request)
     → withheld differs (turned_away r) ≡ turned_away r
@@ -99,8 +66,7 @@ outside_calls_nothing home x b outside =
     let is : asked home b ≡ turned_away r =
     ap (λ z. withheld b.differs (cond z r (turned_away r))) outside ∙ stays b.differs r in
     let all =
-    subst
-    (λ z. Quiet x (turned_away_by home b r) (serve_request b.frame.version home x b.fates z))
+    subst (λ z. Quiet x (turned_away_by home b r) (serve_request b.frame.version home x b.fates z))
     (sym is) (quiet home x b r) in
     record {
       calls_nothing = all.calls_nothing;

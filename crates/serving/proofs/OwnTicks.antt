@@ -3,15 +3,13 @@ use Rattle.std.proofs.Common.{◌≡◌, refl, sym, ap, ◌∙◌, true, eqb, co
 use Rattle.std.proofs.lemmas.Bool.{eq-eqb}
 use Rattle.answers.specs.Seen.{Seen}
 use Rattle.store.specs.declared.home.Home.{Home}
-use Rattle.wire.specs.declared.frame.FrameBody.{FrameBody}
-use Rattle.wire.specs.declared.values.Version.{Version}
+use Rattle.wire.specs.declared.{frame.FrameBody.FrameBody, values.Version.Version}
 use Rattle.serving.specs.Asking.{close_by, ending, is_ours, request}
-use Rattle.serving.specs.Making.{Outside, Way}
+use Rattle.serving.specs.{Making.Outside, model.Requests.AnswersSome, model.Requests.FailsToAnswer}
+use Rattle.serving.{specs.Making.Way, proofs.OneFrame.request_fails, proofs.OneFrame.serves}
 use Rattle.serving.specs.OwnTicks.{Ticks, TicksInPart, tick_frame, unanswered}
-use Rattle.serving.specs.declared.permission.Permission.TheVariants as permission
 use Rattle.serving.specs.declared.request.Request.TheVariants.{Strange, Ticked}
-use Rattle.serving.specs.model.Requests.{AnswersSome, FailsToAnswer}
-use Rattle.serving.proofs.OneFrame.{request_fails, serves}
+use Rattle.serving.specs.declared.permission.Permission.TheVariants as permission
 
 is_for_us : (version : Version) (home : Home) → is_ours home (tick_frame version home) ≡ true
 is_for_us version home =
@@ -28,8 +26,7 @@ pub ticks : {V : Type 0} {way : Way V} (home : Home) (x y : Seen) (w : Option Fr
 ticks {V} {way} home x y w a b h =
     let one =
     serves home (tick_frame way.wire home) permission.All None Ticked x y w
-    (close_by (ending Ticked) y.is_down) None
-    None a b (asks way.wire home) h tt refl in
+    (close_by (ending Ticked) y.is_down) None None a b (asks way.wire home) h tt refl in
     (one.0, close_by (ending Ticked) y.is_down, one.1)
 
 pub ticks_in_part : {V : Type 0} {way : Way V} (home : Home) (x y : Seen) (a b : Outside way)

@@ -1,27 +1,20 @@
 -- Pieces of the stream, one after the other.
 use Rattle.std.proofs.Common.{◌≡◌, inl, inr, refl, sym, ap, subst, ◌∙◌, ℕ, ◌+◌, ◌<◌, ◌≤◌, List, []}
 use Rattle.std.proofs.Common.{◌∷◌, ◌++◌, length, length-append, Option, None, Some, arith}
-use Rattle.std.proofs.lemmas.List.{append_assoc}
-use Rattle.std.specs.Io.KnownBytes.{Consumes}
-use Rattle.std.proofs.KnownBytes.{Consumes-nil, Consumes-trans}
-use Rattle.std.specs.List.{flat_map, AllByRecursion}
-use Rattle.wire.specs.declared.fault.WireFault.{WireFault}
-use Rattle.wire.specs.declared.frame.Frame.{Frame}
-use Rattle.wire.specs.Ranges.{IsFrame}
-use Rattle.wire.specs.Spelling.{spelling}
+use Rattle.std.proofs.{lemmas.List.append_assoc, KnownBytes.Consumes-nil, KnownBytes.Consumes-trans}
+use Rattle.std.specs.{Io.KnownBytes.Consumes, List.flat_map, List.AllByRecursion}
+use Rattle.wire.specs.declared.{fault.WireFault.WireFault, frame.Frame.Frame}
+use Rattle.wire.specs.{Ranges.IsFrame, Spelling.spelling, Stream.Feeds, Stream.IsKept}
 use Rattle.wire.specs.Stream.{Front, Waits, Begins, Breaks, front, keeps, IsBegun, Reader, holding}
-use Rattle.wire.specs.Stream.{Feeds, IsKept}
 use Rattle.store.specs.declared.home.Home.{Home}
-use Rattle.serving.specs.Making.{Way}
-use Rattle.serving.specs.declared.permission.Permission.{Permission}
+use Rattle.serving.specs.{Making.Way, declared.permission.Permission.Permission}
 use Rattle.serving.specs.declared.ends.ConnectionEnd.{ConnectionEnd}
-use Rattle.serving.specs.declared.ends.ConnectionEnd.TheVariants as end
-use Rattle.serving.specs.Connection.{Begun, frames_of, AreBegun, AreUnder, Sides, Serves}
-use Rattle.serving.specs.Connection.{IsOpen, EndsAt}
-use Rattle.serving.specs.Connection.{IsConnection, Reads, failed_at}
+use Rattle.serving.specs.Connection.{Begun, frames_of, AreBegun, AreUnder, Sides, Serves, IsOpen}
+use Rattle.serving.specs.Connection.{EndsAt, IsConnection, Reads, failed_at}
 use Rattle.serving.specs.model.Pieces.{EndsInFrames, EndsBatch, IsBatch, EndsPiece, IsPiece}
 use Rattle.serving.proofs.Connecting.{bytes_then, serves_none, serves_then, ends_then}
 use Rattle.serving.proofs.Connecting.{frames_of_both, under_both}
+use Rattle.serving.specs.declared.ends.ConnectionEnd.TheVariants as end
 
 -- what a reader that gave frames keeps
 pub keeps_fault : (at : Front) (rest : List ℕ) (reader : Reader) (e : WireFault) → (IsBegun at → ⊥)
@@ -48,8 +41,7 @@ all_front (x ∷ xs) ys h = (h.0, all_front xs ys h.1)
 
 -- the frames begun, and then the others with what is behind them
 begins_batch : (stream : List ℕ) (given left : List Frame) (begun : List Begun) (reader : Reader)
-    (r : Feeds stream given reader)
-    → given ≡ frames_of begun ++ left
+    (r : Feeds stream given reader) → given ≡ frames_of begun ++ left
     → AreBegun stream begun (flat_map spelling left ++ r.rest)
 begins_batch stream given left begun reader r parts = record {
   whole =
@@ -60,28 +52,21 @@ begins_batch stream given left begun reader r parts = record {
 }
 
 ends_piece : {V : Type 0} {way : Way V} (e : ConnectionEnd) (home : Home) (a b : Sides way)
-    (begun : List Begun) (rest : List ℕ) (count : ℕ)
-    (new : Reader)
+    (begun : List Begun) (rest : List ℕ) (count : ℕ) (new : Reader)
     → EndsInFrames e home a b begun count → EndsPiece (Some e) home a b begun rest count new
-ends_piece end.Stopped home a b begun rest count new h = h
-ends_piece end.Down home a b begun rest count new h = h
-ends_piece end.Frames home a b begun rest count new h = h
-ends_piece end.Write home a b begun rest count new h = h
 ends_piece end.NoMemory home a b begun rest count new h = inr h
 ends_piece end.End home a b begun rest count new h = absurd h
 ends_piece end.Reads home a b begun rest count new h = absurd h
 ends_piece (end.Fault e) home a b begun rest count new h = absurd h
 ends_piece end.Read home a b begun rest count new h = absurd h
+ends_piece _ home a b begun rest count new h = h
 
 -- a frame of the piece ended the connection
 pub piece_ends : {V : Type 0} {way : Way V} {may : Permission} (how : Option ConnectionEnd)
-    (e : ConnectionEnd)
-    (home : Home)
-    (a b : Sides way) (stream : List ℕ)
+    (e : ConnectionEnd) (home : Home) (a b : Sides way) (stream : List ℕ)
     (given left : List Frame) (begun : List Begun) (before count : ℕ) (reader : Reader)
     → how ≡ Some e → Feeds stream given reader → IsBatch may how home a b given begun left before
-    count
-    → (begun : List Begun) × (rest : List ℕ)
+    count → (begun : List Begun) × (rest : List ℕ)
     × IsPiece may (Some e) home a b stream begun rest before count reader
 piece_ends how e home a b stream given left begun before count reader is r h = (
   begun,
@@ -99,8 +84,7 @@ piece_ends how e home a b stream given left begun before count reader is r h = (
 
 -- all frames of the piece were served, and a fault is behind them
 pub piece_breaks : {V : Type 0} {way : Way V} {may : Permission} (how : Option ConnectionEnd)
-    (e : WireFault)
-    (fault : Option WireFault) (home : Home)
+    (e : WireFault) (fault : Option WireFault) (home : Home)
     (a b : Sides way) (stream : List ℕ) (given left : List Frame) (begun : List Begun)
     (before count : ℕ) (reader : Reader)
     → how ≡ None → fault ≡ Some e → fault ≡ reader.fault → IsKept fault → Feeds stream given reader
@@ -131,11 +115,9 @@ piece_breaks how e fault home a b stream given left begun before count reader is
 
 -- all frames of the piece were served, and what is left waits for more
 pub piece_waits : {V : Type 0} {way : Way V} {may : Permission} (how : Option ConnectionEnd)
-    (fault : Option WireFault)
-    (home : Home) (a b : Sides way)
+    (fault : Option WireFault) (home : Home) (a b : Sides way)
     (stream : List ℕ) (given left : List Frame) (begun : List Begun) (before count : ℕ)
-    (reader : Reader)
-    → how ≡ None → fault ≡ None → fault ≡ reader.fault → Feeds stream given reader
+    (reader : Reader) → how ≡ None → fault ≡ None → fault ≡ reader.fault → Feeds stream given reader
     → IsBatch may how home a b given begun left before count
     → (begun : List Begun) × (rest : List ℕ)
     × IsPiece may None home a b stream begun rest before count reader
@@ -163,8 +145,7 @@ nothing_begun stream = record { whole = refl; each = tt }
 
 -- all frames of the bytes read so far are served, and the reader holds the rest
 pub record SoFar {V : Type 0} {way : Way V} (may : Permission) (home : Home) (a b : Sides way)
-    (bytes : List ℕ)
-    (begun : List Begun) (rest : List ℕ)
+    (bytes : List ℕ) (begun : List Begun) (rest : List ℕ)
     (read left : Option (List ℕ)) (count : ℕ) (reader : Reader) : Type 0 where
   pub consumed : Consumes read left bytes
   pub begins : AreBegun bytes begun rest
@@ -180,8 +161,7 @@ unfolding front
 front_none = refl
 
 pub nothing_yet : {V : Type 0} {way : Way V} {may : Permission} (home : Home) (a : Sides way)
-    (read : Option (List ℕ))
-    (reader : Reader)
+    (read : Option (List ℕ)) (reader : Reader)
     → reader ≡ holding [] → SoFar may home a a [] [] [] read read 0 reader
 nothing_yet home a read reader h = record {
   consumed = Consumes-nil read;
@@ -208,8 +188,7 @@ begins_then bytes piece rest last bs cs h k = record {
       ∙ ap (λ z. flat_map spelling (frames_of bs) ++ z) k.whole
       ∙ sym
       (append_assoc (flat_map spelling (frames_of bs)) (flat_map spelling (frames_of cs)) last)
-      ∙ ap (λ z. z ++ last)
-      (sym (bytes_then (frames_of bs) (frames_of cs))
+      ∙ ap (λ z. z ++ last) (sym (bytes_then (frames_of bs) (frames_of cs))
       ∙ ap (λ z. flat_map spelling z) (sym (frames_of_both bs cs)));
   each =
       subst (λ z. AllByRecursion IsFrame z) (sym (frames_of_both bs cs))
@@ -251,8 +230,7 @@ few_of begun count h few = omega (arith, h, few)
 
 -- with all frames served the connection is open
 pub is_open : {V : Type 0} {way : Way V} {may : Permission} (home : Home) (a b : Sides way)
-    (bytes rest : List ℕ)
-    (bs : List Begun)
+    (bytes rest : List ℕ) (bs : List Begun)
     (read left : Option (List ℕ)) (count : ℕ) (reader : Reader)
     → SoFar may home a b bytes bs rest read left count reader → IsOpen home a b bs
 is_open home a b bytes rest bs read left count reader h =
@@ -260,8 +238,7 @@ is_open home a b bytes rest bs read left count reader h =
 
 -- a connection that ends where all frames read are served
 pub stops_so_far : {V : Type 0} {way : Way V} {may : Permission} (e : ConnectionEnd) (home : Home)
-    (a b : Sides way)
-    (bytes rest : List ℕ) (bs : List Begun)
+    (a b : Sides way) (bytes rest : List ℕ) (bs : List Begun)
     (read left : Option (List ℕ)) (count : ℕ) (reads : Reads) (reader : Reader)
     → SoFar may home a b bytes bs rest read left count reader → reads.count ≤ 19200256
     → reads.failed ≡ failed_at e → EndsAt e home a b bs rest left reads.count
@@ -286,21 +263,13 @@ stops_so_far e home a b bytes rest bs read left count reads reader h bounded fai
 
 -- the end of a piece is one of the connection
 ends_at : {V : Type 0} {way : Way V} (e : ConnectionEnd) (home : Home) (a m b : Sides way)
-    (bs cs : List Begun) (rest : List ℕ)
-    (left : Option (List ℕ)) (count reads : ℕ) (new : Reader)
+    (bs cs : List Begun) (rest : List ℕ) (left : Option (List ℕ)) (count reads : ℕ) (new : Reader)
     → Serves home a m bs → count ≡ length (bs ++ cs) → EndsPiece (Some e) home m b cs rest count new
     → EndsAt e home a b (bs ++ cs) rest left reads
-ends_at end.Stopped home a m b bs cs rest left count reads new h counted k =
-    ends_then end.Stopped home a m b bs cs count h k
-ends_at end.Down home a m b bs cs rest left count reads new h counted k =
-    ends_then end.Down home a m b bs cs count h k
 ends_at end.Frames home a m b bs cs rest left count reads new h counted k =
     let t = ends_then end.Frames home a m b bs cs count h k in (t.0, sym counted ∙ t.1)
-ends_at end.Write home a m b bs cs rest left count reads new h counted k =
-    ends_then end.Write home a m b bs cs count h k
 ends_at end.NoMemory home a m b bs cs rest left count reads new h counted (inl k) =
-    inl
-    (record {
+    inl (record {
       serves = serves_then home a m b bs cs h k.0;
       few = few_of (bs ++ cs) count counted k.1;
     })
@@ -317,20 +286,15 @@ ends_at (end.Fault e) home a m b bs cs rest left count reads new h counted k = (
 ends_at end.End home a m b bs cs rest left count reads new h counted k = absurd k
 ends_at end.Reads home a m b bs cs rest left count reads new h counted k = absurd k
 ends_at end.Read home a m b bs cs rest left count reads new h counted k = absurd k
+ends_at r home a m b bs cs rest left count reads new h counted k =
+    ends_then r home a m b bs cs count h k
 
 -- no piece ends in a failed read
 none_failed : {V : Type 0} {way : Way V} (e : ConnectionEnd) (home : Home) (m b : Sides way)
     (cs : List Begun) (rest : List ℕ) (count : ℕ) (new : Reader)
     → EndsPiece (Some e) home m b cs rest count new → failed_at e ≡ 0
-none_failed end.Stopped home m b cs rest count new k = refl
-none_failed end.Down home m b cs rest count new k = refl
-none_failed end.Frames home m b cs rest count new k = refl
-none_failed end.Write home m b cs rest count new k = refl
-none_failed end.NoMemory home m b cs rest count new k = refl
-none_failed (end.Fault e) home m b cs rest count new k = refl
-none_failed end.End home m b cs rest count new k = refl
-none_failed end.Reads home m b cs rest count new k = refl
 none_failed end.Read home m b cs rest count new k = absurd k
+none_failed _ home m b cs rest count new k = refl
 
 few_then : (bs cs : List Begun) (before count : ℕ) → before ≡ length bs → count ≡ before + length cs
     → count ≤ 64 → length (bs ++ cs) ≤ 64
@@ -338,14 +302,11 @@ few_then bs cs before count h k few = omega (arith, h, k, few, length-append bs 
 
 -- a connection that a piece ends
 pub stops_at_piece : {V : Type 0} {way : Way V} {may : Permission} (e : ConnectionEnd)
-    (how : Option ConnectionEnd)
-    (home : Home)
-    (a m b : Sides way)
+    (how : Option ConnectionEnd) (home : Home) (a m b : Sides way)
     (bytes piece rest last : List ℕ) (bs cs : List Begun) (read left later : Option (List ℕ))
     (before count : ℕ) (reads : Reads) (old new : Reader)
     → how ≡ Some e → SoFar may home a m bytes bs rest read left before old → Consumes left later
-    piece
-    → IsPiece may how home m b (old.held ++ piece) cs last before count new
+    piece → IsPiece may how home m b (old.held ++ piece) cs last before count new
     → reads.count ≤ 19200256 → reads.failed ≡ 0
     → (bytes : List ℕ) × (begun : List Begun) × (rest : List ℕ)
     × IsConnection may (record { frames = count; end = e }) home a b bytes begun rest read later

@@ -1,9 +1,8 @@
 -- Entries from a position on, one after the other.
-use Rattle.std.proofs.Common.{◌≡◌, ◌⊎◌, inl, inr, ℕ, zero, suc, ◌+◌, ◌-◌, ◌≤◌, min, length}
-use Rattle.std.proofs.Common.{nat_lt, Bool, true, false, List, [], ◌∷◌, ◌++◌, Some, None, take}
-use Rattle.std.proofs.Common.{drop, slice_get, refl, ap, ◌∙◌, arith}
-use Rattle.std.proofs.lemmas.List.{length-take, length-drop}
-use Rattle.std.proofs.lemmas.Bool.{ltb-true, ltb-false}
+use Rattle.std.proofs.Common.{◌≡◌, ◌⊎◌, inl, inr, ℕ, zero, suc, ◌+◌, ◌-◌, ◌≤◌, min, length, nat_lt}
+use Rattle.std.proofs.Common.{Bool, true, false, List, [], ◌∷◌, ◌++◌, Some, None, take, drop}
+use Rattle.std.proofs.Common.{slice_get, refl, ap, ◌∙◌, arith}
+use Rattle.std.proofs.lemmas.{List.length-take, List.length-drop, Bool.ltb-true, Bool.ltb-false}
 use Rattle.acceptor.specs.declared.entry.Entry.{Entry}
 use Rattle.serving.specs.Answering.{entries_from}
 
@@ -59,8 +58,7 @@ few_entries p log = let n = counted p log in omega (arith, n)
 
 -- none, or they end within the log
 pub entries_within : (p : ℕ) (log : List Entry) (es : List Entry) (len : ℕ)
-    → es ≡ entries_from p log → len ≡ length log
-    → (length es ≡ 0) ⊎ (p + length es ≤ len)
+    → es ≡ entries_from p log → len ≡ length log → (length es ≡ 0) ⊎ (p + length es ≤ len)
 entries_within p log es len is whole = go (nat_lt (length log) p) refl
   where
     many : length es ≡ min 400 (length log - p)

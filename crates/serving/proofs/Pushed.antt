@@ -2,18 +2,14 @@
 use Rattle.std.proofs.Common.{◌≡◌, sym, ap, subst, ◌∙◌, ℕ, List, [], ◌∷◌, ◌++◌, Option}
 use Rattle.std.proofs.lemmas.List.{append_assoc}
 use Rattle.acceptor.specs.declared.message.Message.{Message}
-use Rattle.wire.specs.declared.values.Version.{Version}
-use Rattle.serving.specs.Adding.{Push, Hands}
-use Rattle.serving.specs.model.Pushing.{PushesFront}
+use Rattle.wire.specs.declared.{values.Version.Version, frame.Frame.Frame}
+use Rattle.serving.specs.{Adding.Push, Adding.Hands, Serving.framed, Serving.pushed}
+use Rattle.serving.{specs.model.Pushing.PushesFront, proofs.Handing.Hands-map}
 use Rattle.wire.specs.Spelling.{spelling}
-use Rattle.wire.specs.declared.frame.Frame.{Frame}
-use Rattle.serving.specs.Serving.{framed, pushed}
-use Rattle.serving.proofs.Handing.{Hands-map}
 
 -- a message that was framed and spelled, and handed over
 pub pushed_so : (v : Version) (hall : ℕ) (m : Message) (f : Frame) (bytes slice : List ℕ)
-    (a b : Option (List Push))
-    → f ≡ framed v hall m → bytes ≡ spelling f → slice ≡ bytes
+    (a b : Option (List Push)) → f ≡ framed v hall m → bytes ≡ spelling f → slice ≡ bytes
     → Hands a b (record { to = m.to; bytes = slice } ∷ []) → Hands a b (pushed v hall m ∷ [])
 pushed_so v hall m f bytes slice a b is spelled same h =
     subst (λ (z : List ℕ). Hands a b (record { to = m.to; bytes = z } ∷ []))

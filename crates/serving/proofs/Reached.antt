@@ -4,13 +4,11 @@ use Rattle.std.proofs.Common.{Result, Ok, Err, OnOk}
 use Rattle.std.proofs.lemmas.List.{append-nil, append_assoc}
 use Rattle.acceptor.specs.declared.message.Message.{Message}
 use Rattle.learner.specs.declared.event.DeskEvent.{DeskEvent}
-use Rattle.serving.specs.Adding.{Push, Hands}
+use Rattle.serving.specs.{Adding.Push, Adding.Hands, model.Calling.Calls, model.Calling.IsCall}
 use Rattle.serving.specs.Making.{Way, Outside, outside_of, Makes}
-use Rattle.serving.specs.model.Calling.{Calls, IsCall}
-use Rattle.serving.specs.declared.calls.NodeAnswer.{NodeAnswer}
+use Rattle.serving.specs.{declared.calls.NodeAnswer.NodeAnswer, Nodes.Fate}
 use Rattle.store.specs.declared.home.Home.{Home}
 use Rattle.answers.specs.Seen.{Seen}
-use Rattle.serving.specs.Nodes.{Fate}
 use Rattle.serving.specs.model.Reaching.{Place, at, service, Reaches, did_call, Did, Does, DoesCall}
 use Rattle.serving.specs.Serving.{Act, Pushed, Service, pushed, seen_after, call, push_all}
 use Rattle.serving.proofs.Makings.{Makes-nil, Makes-trans, Makes-pushes, Makes-call}
@@ -22,8 +20,7 @@ stays home f p = record {
 }
 
 pub goes_on : (home : Home) (f g h : Service → Service) (a b c : Place) (xs ys : List Act)
-    (past more : List Fate)
-    → Reaches home f a g b xs past → Reaches home g b h c ys more
+    (past more : List Fate) → Reaches home f a g b xs past → Reaches home g b h c ys more
     → Reaches home f a h c (xs ++ ys) (past ++ more)
 goes_on home f g h a b c xs ys past more r s = record {
   steps = λ done later.
@@ -43,12 +40,10 @@ pub did_both : {V : Type 0} {way : Way V} (home : Home) (f g : Service → Servi
     → Did home (λ s. g (f s)) first third (xs ++ ys) (past ++ more) a c
 did_both home f g first second third xs ys past more a b c d e = record {
   reaches =
-      goes_on home (λ s. g (f s)) g (λ s. s) first second third xs ys past more
-      (record {
+      goes_on home (λ s. g (f s)) g (λ s. s) first second third xs ys past more (record {
         steps = λ done later. ap g (d.reaches.steps done later);
         calls = d.reaches.calls;
-      })
-      e.reaches;
+      }) e.reaches;
   made = Makes-trans home.hall a b c xs ys d.made e.made;
 }
 
@@ -64,8 +59,7 @@ does_both home f g first second third a b c d e = (
 
 -- a call
 pub calls_once : (home : Home) (g : Service → Service) (event : DeskEvent) (fate : Fate)
-    (x y : Seen)
-    (ms more : List Message) (answer : NodeAnswer)
+    (x y : Seen) (ms more : List Message) (answer : NodeAnswer)
     → Calls home event fate x y ms more answer
     → Reaches home (λ s. g (call home event s)) (at x ms) g (at y more)
     (did_call home event fate x ∷ []) (fate ∷ [])
@@ -83,8 +77,7 @@ pushes_see home x (m ∷ ms) acts fates = pushes_see home x ms acts fates
 
 -- the messages that wait are pushed
 pub pushes_all : {V : Type 0} (way : Way V) (home : Home) (y : Seen) (ms rest : List Message)
-    (v : V) (p q : Option (List Push))
-    → rest ≡ [] → Hands p q (map (pushed way.wire home.hall) ms)
+    (v : V) (p q : Option (List Push)) → rest ≡ [] → Hands p q (map (pushed way.wire home.hall) ms)
     → Does home push_all (at y ms) (at y rest) (outside_of way v p) (outside_of way v q)
 unfolding push_all
 pushes_all way home y ms rest v p q none h = (
@@ -108,25 +101,38 @@ on_ok (Ok x) f a b = f a b
 on_ok (Err e) f a b = tt
 
 does_call_at : {V : Type 0} {way : Way V} (home : Home) (x y z : Seen) (event : DeskEvent)
-    (more : List Message) (answer : NodeAnswer) (a m b : Outside way) (fate : Fate)
-    (acts : List Act) (past : List Fate)
-    → Calls home event fate x y [] more answer
+    (ms more rest : List Message) (answer : NodeAnswer) (a m b : Outside way) (fate : Fate)
+    (acts : List Act) (past : List Fate) → Calls home event fate x y ms more answer
     → Makes home.hall a m (did_call home event fate x ∷ [])
-    → Did home push_all (at y more) (at z []) acts past m b
-    → Did home (λ s. push_all (call home event s)) (at x []) (at z [])
+    → Did home push_all (at y more) (at z rest) acts past m b
+    → Did home (λ s. push_all (call home event s)) (at x ms) (at z rest)
     (did_call home event fate x ∷ acts) (fate ∷ past) a b
-does_call_at home x y z event more answer a m b fate acts past c made d = record {
+does_call_at home x y z event ms more rest answer a m b fate acts past c made d = record {
   reaches =
       goes_on home _ _ _ _ _ _ (did_call home event fate x ∷ []) acts (fate ∷ []) past
-      (calls_once home push_all event fate x y [] more answer c) d.reaches;
+      (calls_once home push_all event fate x y ms more answer c) d.reaches;
   made = Makes-trans home.hall a m b (did_call home event fate x ∷ []) acts made d.made;
 }
+
+-- a call behind messages that wait, and then all that comes of them
+pub does_behind : {V : Type 0} (way : Way V) (home h : Home) (x y z : Seen) (event : DeskEvent)
+    (ms more rest : List Message) (answer : NodeAnswer) (u v : V)
+    (p : Option (List Push)) (b : Outside way) → h ≡ home
+    → (fate : Fate) → Calls h event fate x y ms more answer → IsCall way.handles h event fate x u v
+    → Does home push_all (at y more) (at z rest) (outside_of way v p) b
+    → Does home (λ s. push_all (call home event s)) (at x ms) (at z rest) (outside_of way u p) b
+does_behind way home h x y z event ms more rest answer u v p b same fate c made d = (
+  did_call home event fate x ∷ d.0,
+  fate ∷ d.1,
+  does_call_at home x y z event ms more rest answer (outside_of way u p) (outside_of way v p) b fate
+      d.0 d.1 (subst (λ u. Calls u event fate x y ms more answer) same c)
+      (Makes-call way home h event fate x u v p same made) d.2,
+)
 
 -- a call, and then all that comes of it
 pub does_call : {V : Type 0} (way : Way V) (home h : Home) (x y z : Seen) (event : DeskEvent)
     (ms more rest : List Message) (answer : NodeAnswer) (u v : V)
-    (p : Option (List Push)) (b : Outside way)
-    → h ≡ home → ms ≡ [] → rest ≡ []
+    (p : Option (List Push)) (b : Outside way) → h ≡ home → ms ≡ [] → rest ≡ []
     → (fate : Fate) → Calls h event fate x y ms more answer → IsCall way.handles h event fate x u v
     → Does home push_all (at y more) (at z rest) (outside_of way v p) b
     → (acts : List Act) × (past : List Fate)
@@ -144,7 +150,7 @@ does_call way home h x y z event ms more rest answer u v p b same none empty fat
       fate ∷ d.1,
       record {
         did =
-            does_call_at home x y z event more answer (outside_of way u p) m b fate d.0
+            does_call_at home x y z event [] more [] answer (outside_of way u p) m b fate d.0
             d.1 e (Makes-call way home h event fate x u v p same made) f;
         fate = fate;
         others = d.1;

@@ -1,10 +1,8 @@
 -- A request that has no answer: what is done for it, and Start behind it.
 use Rattle.std.proofs.Common.{◌≡◌, ◌∙◌, ℕ, List, [], ◌++◌, length, None}
 use Rattle.store.specs.declared.home.Home.{Home}
-use Rattle.serving.specs.Making.{Way, Outside}
+use Rattle.serving.specs.{Making.Way, Making.Outside, Nodes.Fate, declared.request.Request.Request}
 use Rattle.answers.specs.Seen.{Seen}
-use Rattle.serving.specs.Nodes.{Fate}
-use Rattle.serving.specs.declared.request.Request.{Request}
 use Rattle.serving.specs.model.Reaching.{at, Does, DoesPart}
 use Rattle.serving.specs.model.Requests.{AnswersSome, FailsToAnswer}
 use Rattle.serving.specs.Serving.{Service, start_if_grown, begun, served, answer}
@@ -19,8 +17,7 @@ pub record IsSaid (home : Home) (f : Service → Service) (r : Request) (x : See
 -- both were done
 pub said : {V : Type 0} {way : Way V} (home : Home) (f : Service → Service) (r : Request)
     (before : ℕ) (x y z : Seen) (a b c : Outside way)
-    → IsSaid home f r x → before ≡ length x.desk.log
-    → Does home f (at x []) (at y []) a b
+    → IsSaid home f r x → before ≡ length x.desk.log → Does home f (at x []) (at y []) a b
     → Does home (start_if_grown home before) (at y []) (at z []) b c
     → AnswersSome home x z r None a c
 said home f r before x y z a b c so is d e =
@@ -45,8 +42,7 @@ said_not home f r x shown a b so d =
 -- memory was refused in Start
 pub said_part : {V : Type 0} {way : Way V} (home : Home) (f : Service → Service) (r : Request)
     (before : ℕ) (x y shown : Seen) (a b c : Outside way)
-    → IsSaid home f r x → before ≡ length x.desk.log
-    → Does home f (at x []) (at y []) a b
+    → IsSaid home f r x → before ≡ length x.desk.log → Does home f (at x []) (at y []) a b
     → DoesPart home (start_if_grown home before) (at y []) shown b c
     → FailsToAnswer home x shown r a c
 said_part home f r before x y shown a b c so is d e =

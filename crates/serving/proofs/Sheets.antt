@@ -1,10 +1,9 @@
 -- Every sheet of a desk fits into a frame.
 use Rattle.std.proofs.Common.{◌≡◌, ◌^◌, ◌<◌, ◌≤◌, ℕ, List, length, take, Some}
 use Rattle.acceptor.specs.declared.entry.Entry.{Entry}
-use Rattle.formats.specs.declared.events.Event.{Event}
+use Rattle.formats.specs.declared.{events.Event.Event, styles.SheetStyle.SheetStyle as Style}
 use Rattle.answers.specs.Answers.{texts, sheet_at}
 use Rattle.sheets.specs.FrameLaw.{FitsInAFrame}
-use Rattle.formats.specs.declared.styles.SheetStyle.{SheetStyle as Style}
 use Rattle.formats.specs.declared.styles.SheetStyle.TheVariants.{Text, Table}
 
 pub fits : FitsInAFrame

@@ -1,9 +1,7 @@
 -- What a desk says of itself is in the ranges of a frame.
-use Rattle.std.proofs.Common.{◌≡◌, inl, inr, ◌⊎◌, ◌∙◌, sym, ap}
-use Rattle.std.proofs.Common.{subst, arith, ℕ, ◌<◌, ◌≤◌, ◌^◌, ◌==◌}
-use Rattle.std.proofs.Common.{Bool, true, false, if◌then◌else◌, Option, None, Some}
-use Rattle.acceptor.specs.Ballots.{no_ballot}
-use Rattle.acceptor.specs.declared.ballot.Ballot.{Ballot}
+use Rattle.std.proofs.Common.{◌≡◌, inl, inr, ◌⊎◌, ◌∙◌, sym, ap, subst, arith, ℕ, ◌<◌, ◌≤◌, ◌^◌}
+use Rattle.std.proofs.Common.{◌==◌, Bool, true, false, if◌then◌else◌, Option, None, Some}
+use Rattle.acceptor.specs.{Ballots.no_ballot, declared.ballot.Ballot.Ballot}
 use Rattle.learner.specs.Ranges.{IsReal}
 use Rattle.wire.specs.Ranges.{IsPromised}
 use Rattle.serving.specs.Answering.{promised_of}

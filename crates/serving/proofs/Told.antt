@@ -1,37 +1,25 @@
 -- A run of entries: what is gathered, the frame that it is, and what comes of it.
-use Rattle.std.proofs.Common.{◌≡◌, refl, sym, ap, subst, ◌∙◌, ℕ, suc, ◌+◌, ◌≤◌, ◌<◌}
-use Rattle.std.proofs.Common.{Bool, true, false, cond, eqb, List, [], ◌∷◌, ◌++◌, length}
-use Rattle.std.proofs.Common.{Option, None, Some, append_assoc, arith}
-use Rattle.std.proofs.lemmas.Bool.{eqb-true, ltb-true}
-use Rattle.std.proofs.lemmas.List.{append-nil}
-use Rattle.acceptor.specs.declared.entry.Entry.{Entry}
-use Rattle.acceptor.specs.declared.message.Body.{Body}
-use Rattle.acceptor.specs.declared.message.Body.TheVariants as body
-use Rattle.acceptor.specs.declared.message.Message.{Message}
+use Rattle.std.proofs.Common.{◌≡◌, refl, sym, ap, subst, ◌∙◌, ℕ, suc, ◌+◌, ◌≤◌, ◌<◌, Bool, true}
+use Rattle.std.proofs.Common.{false, cond, eqb, List, [], ◌∷◌, ◌++◌, length, Option, None, Some}
+use Rattle.std.proofs.Common.{append_assoc, arith}
+use Rattle.std.proofs.lemmas.{Bool.eqb-true, Bool.ltb-true, List.append-nil}
+use Rattle.acceptor.specs.declared.{entry.Entry.Entry, message.Body.Body, message.Message.Message}
 use Rattle.learner.specs.Ranges.{AreInRange, IsInRange}
-use Rattle.learner.specs.Steps.{is_in_range}
-use Rattle.learner.specs.declared.event.DeskEvent.TheVariants.{Deliver}
+use Rattle.learner.specs.{Steps.is_in_range, declared.event.DeskEvent.TheVariants.Deliver}
 use Rattle.store.specs.declared.home.Home.{Home}
-use Rattle.serving.specs.Adding.{Push, Hands}
+use Rattle.serving.specs.{Adding.Push, Adding.Hands, Nodes.Fate, Serving.tell, Telling.run_pushed}
 use Rattle.serving.specs.Making.{Way, Outside, outside_of, Makes}
 use Rattle.answers.specs.Seen.{Seen}
-use Rattle.serving.specs.Nodes.{Fate}
-use Rattle.serving.specs.Serving.{Act, Answered, Service, call, push_all, hand_out}
-use Rattle.serving.specs.Serving.{answer_out, tell}
-use Rattle.serving.specs.Telling.{with_entry, decided_at, entry_told, entries_told}
-use Rattle.serving.specs.Telling.{run_of, run_pushed}
-use Rattle.serving.specs.declared.calls.NodeAnswer.{NodeAnswer}
-use Rattle.serving.specs.declared.request.DecidedRun.{DecidedRun}
-use Rattle.serving.specs.declared.request.Request.TheVariants.{Lagging}
+use Rattle.serving.specs.Serving.{Act, Answered, Service, call, push_all, hand_out, answer_out}
+use Rattle.serving.specs.Telling.{with_entry, decided_at, entry_told, entries_told, run_of}
+use Rattle.serving.{specs.declared.calls.NodeAnswer.NodeAnswer, proofs.Makings.Makes-trans}
+use Rattle.serving.specs.declared.request.{DecidedRun.DecidedRun, Request.TheVariants.Lagging}
 use Rattle.serving.specs.model.Calling.{Calls, IsCall, LosesMessages}
 use Rattle.serving.specs.model.Gathering.{Gathers, IsRun}
-use Rattle.serving.specs.model.Reaching.{at, service, Reaches, did_call, OnlyAdds, Does}
-use Rattle.serving.specs.model.Reaching.{DoesPart}
-use Rattle.serving.proofs.Additions.{adds_push}
-use Rattle.serving.proofs.Makings.{Makes-trans, Makes-call}
-use Rattle.serving.proofs.Parts.{part_of, lost}
-use Rattle.serving.proofs.Reached.{stays, goes_on, calls_once}
-use Rattle.serving.proofs.Said.{IsSaid}
+use Rattle.serving.specs.model.Reaching.{at, service, Reaches, did_call, OnlyAdds, Does, DoesPart}
+use Rattle.serving.proofs.{Additions.adds_push, Parts.part_of, Parts.lost, Said.IsSaid}
+use Rattle.serving.proofs.{Makings.Makes-call, Reached.stays, Reached.goes_on, Reached.calls_once}
+use Rattle.acceptor.specs.declared.message.Body.TheVariants as body
 
 -- ---- what is gathered
 
@@ -47,8 +35,7 @@ unfolding entries_told
 gathers_not to pos ms rest m old new is none = rw (is, none) refl
 
 pub gathers_more : (all : Bool) (to pos : ℕ) (ms rest : List Message) (m : Message) (e : Entry)
-    (old mid new : List Entry)
-    → ms ≡ m ∷ rest → entry_told to pos m ≡ Some e → mid ≡ old ++ e ∷ []
+    (old mid new : List Entry) → ms ≡ m ∷ rest → entry_told to pos m ≡ Some e → mid ≡ old ++ e ∷ []
     → Gathers all mid new (entries_told to (pos + 1) rest)
     → Gathers all old new (entries_told to pos ms)
 unfolding entries_told
@@ -75,16 +62,11 @@ none_of (Some a) other = absurd (other a refl)
 
 decided_low : (n pos : ℕ) (b : Body) (e : Entry) → is_in_range n b ≡ true
     → decided_at pos b ≡ Some e → pos < 65536
-decided_low n pos (body.Prepare b p) e h k = absurd cc
-decided_low n pos (body.Promise b p vote) e h k = absurd cc
-decided_low n pos (body.Accept b p x) e h k = absurd cc
-decided_low n pos (body.Accepted b p) e h k = absurd cc
-decided_low n pos (body.Nack b p q) e h k = absurd cc
-decided_low n pos (body.Behind len) e h k = absurd cc
 decided_low n pos (body.Decided p x) e h k = go (eqb p pos) refl k where
   go : (t : Bool) → eqb p pos ≡ t → cond t (Some x) None ≡ Some e → pos < 65536
   go true same k = subst (λ z. z < 65536) (eqb-true _ _ same) (ltb-true _ _ h)
   go false same k = absurd cc
+decided_low n pos _ e h k = absurd cc
 
 told_low : (n to pos : ℕ) (m : Message) (e : Entry) → IsInRange n m → entry_told to pos m ≡ Some e
     → pos < 65536
@@ -130,8 +112,7 @@ told_last n d to pos m (k ∷ ms) es range h =
     omega (arith, later)
 
 pub run_in_range : (n d pos : ℕ) (m : Message) (rest all : List Message) (es : List Entry)
-    → all ≡ m ∷ rest → AreInRange n d all → length all ≤ 16
-    → entries_told m.to pos all ≡ Some es
+    → all ≡ m ∷ rest → AreInRange n d all → length all ≤ 16 → entries_told m.to pos all ≡ Some es
     → IsRun n (record { from = m.from; to = m.to; pos = pos; entries = es })
 run_in_range n d pos m rest all es is range few told =
     let r : AreInRange n d (m ∷ rest) = subst (λ z. AreInRange n d z) is range in
@@ -154,8 +135,7 @@ run_in_range n d pos m rest all es is range few told =
 abbrev pub told_first : Home → Message → Service → Service
 told_first home m s = answer_out home (call home (Deliver m) s)
 
-pub told_so : (home : Home) (m : Message) (x : Seen)
-    → IsSaid home (told_first home m) (Lagging m) x
+pub told_so : (home : Home) (m : Message) (x : Seen) → IsSaid home (told_first home m) (Lagging m) x
 unfolding tell
 told_so home m x = record { served_so = λ fates. refl; silent = λ fates. refl }
 
@@ -191,8 +171,7 @@ no_run home y ms is = record {
 
 -- the call, behind an empty list
 told_call : (home h : Home) (m : Message) (fate : Fate) (x y : Seen) (empty more : List Message)
-    (answer : NodeAnswer)
-    → h ≡ home → empty ≡ [] → Calls h (Deliver m) fate x y empty more answer
+    (answer : NodeAnswer) → h ≡ home → empty ≡ [] → Calls h (Deliver m) fate x y empty more answer
     → Reaches home (told_first home m) (at x []) (answer_out home) (at y more)
     (did_call home (Deliver m) fate x ∷ []) (fate ∷ [])
 told_call home h m fate x y empty more answer same none c =
@@ -202,8 +181,7 @@ told_call home h m fate x y empty more answer same none c =
 
 -- pushing a run
 makes_run : {V : Type 0} {way : Way V} (hall : ℕ) (u : V) (b c : Option (List Push))
-    (run : DecidedRun)
-    → Hands b c (run_pushed way.wire hall run ∷ [])
+    (run : DecidedRun) → Hands b c (run_pushed way.wire hall run ∷ [])
     → Makes hall (outside_of way u b) (outside_of way u c) (Answered run ∷ [])
 makes_run hall u b c run h = record { calls = refl; pushes = h }
 
@@ -214,8 +192,7 @@ pub tells_run : {V : Type 0} (way : Way V) (home h : Home) (m : Message) (x y : 
     → (fate : Fate) → Calls h (Deliver m) fate x y empty more answer
     → IsCall way.handles h (Deliver m) fate x u v
     → Hands p q (run_pushed way.wire home.hall run ∷ [])
-    → Does home (told_first home m) (at x []) (at y []) (outside_of way u p)
-    (outside_of way v q)
+    → Does home (told_first home m) (at x []) (at y []) (outside_of way u p) (outside_of way v q)
 tells_run way home h m x y empty more messages answer run u v p q same none is found fate c made
     handed = (
       did_call home (Deliver m) fate x ∷ Answered run ∷ [],
@@ -224,8 +201,7 @@ tells_run way home h m x y empty more messages answer run u v p q same none is f
         reaches =
             goes_on home (told_first home m) (answer_out home) (λ s. s) (at x []) (at y more)
             (at y []) (did_call home (Deliver m) fate x ∷ []) (Answered run ∷ []) (fate ∷ []) []
-            (told_call home h m fate x y empty more answer same none c)
-            (runs_out home y more [] run
+            (told_call home h m fate x y empty more answer same none c) (runs_out home y more [] run
             (sym (found ∙ ap (λ z. run_of home.desk z) is)) refl);
         made =
             Makes-trans home.hall (outside_of way u p) (outside_of way v p) (outside_of way v q)
@@ -257,8 +233,7 @@ tells_others way home h m x y z empty more messages queue rest answer u v p b sa
         reaches =
             goes_on home (told_first home m) (answer_out home) (λ s. s) (at x [])
             (at y more) (at z []) (did_call home (Deliver m) fate x ∷ []) ([] ++ e.0)
-            (fate ∷ []) ([] ++ e.1)
-            (told_call home h m fate x y empty more answer same none c)
+            (fate ∷ []) ([] ++ e.1) (told_call home h m fate x y empty more answer same none c)
             (goes_on home (answer_out home) push_all (λ s. s) (at y more)
             (at y more) (at z []) [] e.0 [] e.1
             (no_run home y more (sym (found ∙ ap (λ w. run_of home.desk w) kept))) e.2.reaches);
@@ -271,8 +246,7 @@ tells_others way home h m x y z empty more messages queue rest answer u v p b sa
 
 -- memory was refused in the call
 pub tells_lost : {V : Type 0} (way : Way V) (home h : Home) (m : Message) (x y : Seen)
-    (u v : V) (p : Option (List Push))
-    → h ≡ home
+    (u v : V) (p : Option (List Push)) → h ≡ home
     → (fate : Fate) × LosesMessages h (Deliver m) fate x y
     × IsCall way.handles h (Deliver m) fate x u v
     → DoesPart home (told_first home m) (at x []) y (outside_of way u p) (outside_of way v p)
@@ -287,8 +261,7 @@ tells_lost way home h m x y u v p same l =
 -- memory was refused for the run
 pub tells_no_run : {V : Type 0} (way : Way V) (home h : Home) (m : Message) (x y : Seen)
     (empty more : List Message) (answer : NodeAnswer) (u v : V) (p : Option (List Push))
-    → h ≡ home → empty ≡ []
-    → (fate : Fate) → Calls h (Deliver m) fate x y empty more answer
+    → h ≡ home → empty ≡ [] → (fate : Fate) → Calls h (Deliver m) fate x y empty more answer
     → IsCall way.handles h (Deliver m) fate x u v
     → DoesPart home (told_first home m) (at x []) y (outside_of way u p) (outside_of way v p)
 tells_no_run way home h m x y empty more answer u v p same none fate c made =
@@ -302,8 +275,7 @@ tells_no_run way home h m x y empty more answer u v p same none fate c made =
 pub tells_part : {V : Type 0} (way : Way V) (home h : Home) (m : Message) (x y shown : Seen)
     (empty more messages queue : List Message) (answer : NodeAnswer) (u v : V)
     (p : Option (List Push)) (b : Outside way)
-    → h ≡ home → empty ≡ [] → messages ≡ more → queue ≡ messages
-    → None ≡ run_of home.desk messages
+    → h ≡ home → empty ≡ [] → messages ≡ more → queue ≡ messages → None ≡ run_of home.desk messages
     → (fate : Fate) → Calls h (Deliver m) fate x y empty more answer
     → IsCall way.handles h (Deliver m) fate x u v
     → DoesPart home push_all (at y queue) shown (outside_of way v p) b

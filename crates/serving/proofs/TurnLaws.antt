@@ -1,30 +1,24 @@
 -- What holds after each turn of a connection.
-use Rattle.std.proofs.Common.{◌≡◌, inl, inr, refl, sym, ap, subst, ◌∙◌, ℕ, ◌<◌, ◌≤◌, List, []}
-use Rattle.std.proofs.Common.{◌∷◌, ◌++◌, length, length-append, Option, None, Some, arith}
+use Rattle.std.proofs.Common.{◌≡◌, inl, inr, refl, sym, ap, subst, ◌∙◌, ℕ, ◌<◌, ◌≤◌, List, [], ◌∷◌}
+use Rattle.std.proofs.Common.{◌++◌, length, drop, length-append, Option, None, Some, arith}
 use Rattle.std.proofs.lemmas.List.{append-nil, append_assoc}
 use Rattle.std.specs.List.{flat_map, AllByRecursion}
 use Rattle.answers.specs.declared.desk.Desk.{Ghosts as DeskOf}
 use Rattle.store.specs.declared.home.Home.{Home}
-use Rattle.wire.specs.declared.fault.WireFault.{WireFault}
-use Rattle.wire.specs.declared.frame.Frame.{Frame}
-use Rattle.wire.specs.Ranges.{IsFrame}
-use Rattle.wire.specs.Spelling.{spelling}
-use Rattle.wire.specs.Stream.{IsBegun, IsKept, Reader, front}
-use Rattle.wire.specs.Stream.{holding, keeps}
-use Rattle.serving.specs.declared.ends.ConnectionEnd.{ConnectionEnd}
-use Rattle.serving.specs.declared.ends.ConnectionEnd.TheVariants as end
-use Rattle.serving.specs.Connection.{Begun, AreBegun, Sides, sides, Serves, frames_of}
-use Rattle.serving.specs.Making.{Way, Outside}
-use Rattle.serving.specs.Turns.{Talk, BeginsNext, LeavesAt, OnlyReads, ReadsTo}
-use Rattle.serving.specs.Turns.{RunsOut, WantsRead, after_sent, broken_by, new_talk}
+use Rattle.wire.specs.declared.{fault.WireFault.WireFault, frame.Frame.Frame}
+use Rattle.wire.specs.{Ranges.IsFrame, Spelling.spelling}
+use Rattle.wire.specs.Stream.{IsBegun, IsKept, Reader, front, holding, keeps}
+use Rattle.serving.specs.{declared.ends.ConnectionEnd.ConnectionEnd, model.Turning.Leaves}
+use Rattle.serving.specs.Connection.{Begun, AreBegun, Sides, Serves, frames_of}
+use Rattle.serving.{specs.Making.Way, proofs.Turning.leaves_more}
+use Rattle.serving.specs.Turns.{Talk, BeginsNext, LeavesAt, OnlyReads, ReadsTo, RunsOut, WantsRead}
+use Rattle.serving.specs.Turns.{after_sent, broken_by, new_talk}
 use Rattle.serving.specs.TurnLaw.{AreServed, Came, Began, Follow, IsQuiet, Place, Rested, Stands}
-use Rattle.serving.specs.TurnLaw.{Took, Turn, Turns, TurnsServe, begun_at, begun_in}
-use Rattle.serving.specs.TurnLaw.{came_in, handed_out, received}
-use Rattle.serving.specs.TurnLaw.{sides_in, taken_in}
-use Rattle.serving.specs.model.Turning.{Leaves}
+use Rattle.serving.specs.TurnLaw.{Took, Turn, Turns, TurnsServe, begun_at, begun_in, came_in}
+use Rattle.serving.specs.TurnLaw.{handed_out, received, sides_in, taken_in}
 use Rattle.serving.proofs.Connecting.{frames_of_both, bytes_then, serves_none}
 use Rattle.serving.proofs.Pieces.{all_both, front_none, keeps_fault, keeps_none}
-use Rattle.serving.proofs.Turning.{leaves_more}
+use Rattle.serving.specs.declared.ends.ConnectionEnd.TheVariants as end
 
 -- what holds after some turns, of which these bytes came and these were taken
 record Holds {V : Type 0} {way : Way V} (home : Home) (a b : Place way) (bytes taken : List ℕ)
@@ -75,11 +69,7 @@ quiet_as : {V : Type 0} {way : Way V} (e : Option ConnectionEnd) (home : Home) (
     → IsQuiet a b → q ≡ p → n ≡ count → Stands e home s (sides_in a p) begun rest count
     → Stands e home s (sides_in b q) begun rest n
 quiet_as {V} {way} e home s a b p q begun rest count n quiet same counted h =
-    subst (λ z. Stands e home s (sides z (Some q) b.outside) begun rest n) (sym quiet.seen)
-    (subst (λ (z : Outside way). Stands e home s (sides a.seen (Some q) z) begun rest n)
-    (sym quiet.outside)
-    (subst (λ z. Stands e home s (sides a.seen (Some z) a.outside) begun rest n) (sym same)
-    (subst (λ z. Stands e home s (sides a.seen (Some p) a.outside) begun rest z) (sym counted) h)))
+    rw (quiet.seen, quiet.outside, same, counted) h
 
 -- ---- a piece came
 
@@ -107,8 +97,7 @@ broke_off : {V : Type 0} {way : Way V} (e : ConnectionEnd) (home : Home) (start 
     → Holds home start a bytes taken begun rest → WantsRead a.talk → OnlyReads a.talk b.talk
     → IsQuiet a b → b.talk.end ≡ Some e → b.talk.waiting ≡ []
     → Stands (Some e) home (sides_in start []) (sides_in a (taken ++ a.talk.pending)) begun
-    (rest ++ piece) a.talk.frames
-    → HoldsSome home start b (bytes ++ piece) taken begun
+    (rest ++ piece) a.talk.frames → HoldsSome home start b (bytes ++ piece) taken begun
 broke_off e home start a b bytes taken piece rest begun h wants only quiet is none stands =
     let begins = more_came bytes piece rest begun a.talk.waiting wants.served h.served.begins in (
       rest ++ piece,
@@ -134,8 +123,7 @@ broke_off e home start a b bytes taken piece rest begun h wants only quiet is no
 
 -- the new frames wait, or the end came
 came_to : {V : Type 0} {way : Way V} (e : Option ConnectionEnd) (home : Home)
-    (start a b : Place way)
-    (bytes taken piece rest : List ℕ) (begun : List Begun)
+    (start a b : Place way) (bytes taken piece rest : List ℕ) (begun : List Begun)
     → Holds home start a bytes taken begun rest → WantsRead a.talk → OnlyReads a.talk b.talk
     → IsQuiet a b → a.talk.stream ≡ holding rest → b.talk.end ≡ e → ReadsTo e piece a.talk b.talk
     → HoldsSome home start b (bytes ++ piece) taken begun
@@ -173,20 +161,7 @@ came_to (Some end.NoMemory) home start a b bytes taken piece rest begun h wants 
     let serves = serves_of a.talk.end home _ _ begun rest _ wants.free.unended h.served.stands in
     broke_off end.NoMemory home start a b bytes taken piece rest begun h wants only quiet is r.1
     (inl serves.0)
-came_to (Some end.End) home start a b bytes taken piece rest begun h wants only quiet holds is r =
-    absurd r
-came_to (Some end.Stopped) home start a b bytes taken piece rest begun h wants only quiet holds is
-    r = absurd r
-came_to (Some end.Frames) home start a b bytes taken piece rest begun h wants only quiet holds is
-    r = absurd r
-came_to (Some end.Reads) home start a b bytes taken piece rest begun h wants only quiet holds is
-    r = absurd r
-came_to (Some end.Read) home start a b bytes taken piece rest begun h wants only quiet holds is
-    r = absurd r
-came_to (Some end.Write) home start a b bytes taken piece rest begun h wants only quiet holds is
-    r = absurd r
-came_to (Some end.Down) home start a b bytes taken piece rest begun h wants only quiet holds is
-    r = absurd r
+came_to _ home start a b bytes taken piece rest begun h wants only quiet holds is r = absurd r
 
 -- ---- a frame was begun
 
@@ -199,11 +174,7 @@ stands_of (Some end.Stopped) home s t begun rest count a b one k h = h
 stands_of (Some end.Down) home s t begun rest count a b one k h = h
 stands_of (Some end.Frames) home s t begun rest count a b one k h = h
 stands_of (Some end.NoMemory) home s t begun rest count a b one k h = inr h
-stands_of (Some (end.Fault e)) home s t begun rest count a b one k h = absurd k
-stands_of (Some end.End) home s t begun rest count a b one k h = absurd k
-stands_of (Some end.Reads) home s t begun rest count a b one k h = absurd k
-stands_of (Some end.Read) home s t begun rest count a b one k h = absurd k
-stands_of (Some end.Write) home s t begun rest count a b one k h = absurd k
+stands_of _ home s t begun rest count a b one k h = absurd k
 
 pub one_more : (bytes rest : List ℕ) (begun : List Begun) (one : Begun) (waiting later : List Frame)
     → waiting ≡ one.frame ∷ later → AllByRecursion IsFrame waiting
@@ -220,8 +191,7 @@ one_more bytes rest begun one waiting later next spelled h =
           ∙ ap (λ z. front ++ z) (append_assoc first (flat_map spelling later) rest)
           ∙ sym (append_assoc front first after)
           ∙ ap (λ z. (front ++ z) ++ after) (sym (append-nil first))
-          ∙ ap (λ z. z ++ after)
-          (sym (bytes_then (frames_of begun) (one.frame ∷ []))
+          ∙ ap (λ z. z ++ after) (sym (bytes_then (frames_of begun) (one.frame ∷ []))
           ∙ ap (λ z. flat_map spelling z) (sym (frames_of_both begun (one ∷ []))));
       each =
           subst (λ z. AllByRecursion IsFrame z) (sym (frames_of_both begun (one ∷ [])))
@@ -233,8 +203,7 @@ began_to : {V : Type 0} {way : Way V} (home : Home) (start a b : Place way)
     (bytes taken rest : List ℕ) (begun : List Begun) (one : Begun)
     → Holds home start a bytes taken begun rest → BeginsNext a.talk b.talk one.frame
     → LeavesAt b.talk.end a.talk.home (sides_in a a.talk.pending) (sides_in b b.talk.pending) one
-    b.talk.frames
-    → HoldsSome home start b bytes taken (begun ++ one ∷ [])
+    b.talk.frames → HoldsSome home start b bytes taken (begun ++ one ∷ [])
 began_to home start a b bytes taken rest begun one h next turn =
     let none = next.free.taken in
     let serves = serves_of a.talk.end home _ _ begun rest _ next.free.unended h.served.stands in
@@ -271,31 +240,38 @@ began_to home start a b bytes taken rest begun one h next turn =
 
 -- ---- no frame was begun
 
+-- the same, with this end and this pending
+abbrev ended_with : Talk → Option ConnectionEnd → List ℕ → Talk
+ended_with c e p = record c { end = e; pending = p }
+
+with_end : {V : Type 0} {way : Way V} (e : Option ConnectionEnd) (p : List ℕ) (home : Home)
+    (start a b : Place way) (bytes taken more rest : List ℕ) (begun : List Begun)
+    → Holds home start a bytes taken begun rest
+    → b.talk ≡ ended_with a.talk e p → (e ≡ None → a.talk.end ≡ None)
+    → Stands e home (sides_in start []) (sides_in b (more ++ p)) begun rest a.talk.frames
+    → Holds home start b bytes more begun rest
+with_end e p home start a b bytes taken more rest begun h is unended stands = record {
+  place = rw is h.place;
+  spelled = rw is h.spelled;
+  stream = rw is (λ none. h.stream (unended none));
+  served = record {
+    begins = rw is h.served.begins;
+    counted = rw is h.served.counted;
+    few = rw is h.served.few;
+    stands =
+        subst (λ (z : Talk). Stands z.end home (sides_in start []) (sides_in b (more ++ z.pending))
+        begun rest z.frames) (sym is) stands;
+  };
+}
+
 same_talk : {V : Type 0} {way : Way V} (home : Home) (start a b : Place way)
     (bytes taken rest : List ℕ) (begun : List Begun)
     → Holds home start a bytes taken begun rest → b.talk ≡ a.talk → IsQuiet a b
     → Holds home start b bytes taken begun rest
-same_talk home start a b bytes taken rest begun h is quiet = record {
-  place = ap (λ (z : Talk). z.home) is ∙ h.place;
-  spelled = subst (λ (z : Talk). AllByRecursion IsFrame z.waiting) (sym is) h.spelled;
-  stream =
-      subst (λ (z : Talk). z.end ≡ None
-      → (z.stream ≡ keeps (front rest) rest) × (IsBegun (front rest) → ⊥)) (sym is) h.stream;
-  served = record {
-    begins =
-        subst (λ (z : Talk). AreBegun bytes begun (flat_map spelling z.waiting ++ rest)) (sym is)
-        h.served.begins;
-    counted = ap (λ (z : Talk). z.frames) is ∙ h.served.counted;
-    few = subst (λ (z : Talk). z.frames ≤ 64) (sym is) h.served.few;
-    stands =
-        subst (λ (z : Talk). Stands z.end home (sides_in start [])
-        (sides_in b (taken ++ b.talk.pending)) begun rest b.talk.frames) (sym is)
-        (quiet_as a.talk.end home (sides_in start []) a b (taken ++ a.talk.pending)
-        (taken ++ b.talk.pending) begun rest a.talk.frames b.talk.frames quiet
-        (ap (λ (z : Talk). taken ++ z.pending) is) (ap (λ (z : Talk). z.frames) is)
-        h.served.stands);
-  };
-}
+same_talk home start a b bytes taken rest begun h is quiet =
+    with_end a.talk.end a.talk.pending home start a b bytes taken taken rest begun h is (λ none. none)
+    (quiet_as a.talk.end home (sides_in start []) a b (taken ++ a.talk.pending)
+    (taken ++ a.talk.pending) begun rest a.talk.frames a.talk.frames quiet refl refl h.served.stands)
 
 -- a fault that is after the frames ends it
 breaks_now : {V : Type 0} {way : Way V} (fault : Option WireFault) (home : Home) (s t : Sides way)
@@ -307,43 +283,19 @@ breaks_now None home s t begun rest count reader is kept holds other h = h
 breaks_now (Some e) home s t begun rest count reader is kept holds other h =
     (h.0, keeps_fault (front rest) rest reader e other holds is, kept)
 
-still_open : (fault : Option WireFault) (stream : Reader) (rest : List ℕ)
-    → (stream ≡ keeps (front rest) rest) × (IsBegun (front rest) → ⊥) → broken_by fault ≡ None
-    → (stream ≡ keeps (front rest) rest) × (IsBegun (front rest) → ⊥)
-still_open fault stream rest h none = h
-
 ran_out : {V : Type 0} {way : Way V} (home : Home) (start a b : Place way)
     (bytes taken rest : List ℕ) (begun : List Begun)
     → Holds home start a bytes taken begun rest → RunsOut a.talk b.talk → IsQuiet a b
     → Holds home start b bytes taken begun rest
 ran_out home start a b bytes taken rest begun h r quiet =
-    let is = r.ends in
     let holds = h.stream r.free.unended in
     let serves = serves_of a.talk.end home _ _ begun rest _ r.free.unended h.served.stands in
-    record {
-      place = ap (λ (z : Talk). z.home) is ∙ h.place;
-      spelled = subst (λ (z : Talk). AllByRecursion IsFrame z.waiting) (sym is) h.spelled;
-      stream = λ _. (ap (λ (z : Talk). z.stream) is ∙ holds.0, holds.1);
-      served = record {
-        begins =
-            subst (λ (z : Talk). AreBegun bytes begun (flat_map spelling z.waiting ++ rest))
-            (sym is)
-            h.served.begins;
-        counted = ap (λ (z : Talk). z.frames) is ∙ h.served.counted;
-        few = subst (λ (z : Talk). z.frames ≤ 64) (sym is) h.served.few;
-        stands =
-            subst (λ (z : Talk). Stands z.end home (sides_in start [])
-            (sides_in b (taken ++ b.talk.pending)) begun rest b.talk.frames) (sym is)
-            (quiet_as (broken_by a.talk.stream.fault) home (sides_in start []) a b
-            (taken ++ a.talk.pending) (taken ++ b.talk.pending) begun rest a.talk.frames
-            b.talk.frames quiet (ap (λ (z : Talk). taken ++ z.pending) is)
-            (ap (λ (z : Talk). z.frames) is)
-            (breaks_now a.talk.stream.fault home (sides_in start [])
-            (sides_in a (taken ++ a.talk.pending)) begun rest a.talk.frames a.talk.stream refl
-            r.kept
-            holds.0 holds.1 serves));
-      };
-    }
+    let broken = broken_by a.talk.stream.fault in
+    with_end broken a.talk.pending home start a b bytes taken taken rest begun h r.ends
+    (λ _. r.free.unended) (quiet_as broken home (sides_in start []) a b (taken ++ a.talk.pending)
+    (taken ++ a.talk.pending) begun rest a.talk.frames a.talk.frames quiet refl refl
+    (breaks_now a.talk.stream.fault home (sides_in start []) (sides_in a (taken ++ a.talk.pending))
+    begun rest a.talk.frames a.talk.stream refl r.kept holds.0 holds.1 serves))
 
 -- ---- bytes of an answer were taken
 
@@ -353,29 +305,14 @@ took : {V : Type 0} {way : Way V} (home : Home) (start a b : Place way)
     → b.talk ≡ after_sent a.talk (length more) → IsQuiet a b
     → Holds home start b bytes (taken ++ more) begun rest
 took home start a b bytes taken more rest begun h parts is quiet =
-    let same : (taken ++ more) ++ b.talk.pending ≡ taken ++ a.talk.pending
-    = append_assoc taken more b.talk.pending ∙ ap (λ z. taken ++ z) (sym parts) in
-    record {
-      place = ap (λ (z : Talk). z.home) is ∙ h.place;
-      spelled = subst (λ (z : Talk). AllByRecursion IsFrame z.waiting) (sym is) h.spelled;
-      stream =
-          subst (λ (z : Talk). z.end ≡ None
-          → (z.stream ≡ keeps (front rest) rest) × (IsBegun (front rest) → ⊥)) (sym is) h.stream;
-      served = record {
-        begins =
-            subst (λ (z : Talk). AreBegun bytes begun (flat_map spelling z.waiting ++ rest))
-            (sym is)
-            h.served.begins;
-        counted = ap (λ (z : Talk). z.frames) is ∙ h.served.counted;
-        few = subst (λ (z : Talk). z.frames ≤ 64) (sym is) h.served.few;
-        stands =
-            subst (λ (z : Talk). Stands z.end home (sides_in start [])
-            (sides_in b ((taken ++ more) ++ b.talk.pending)) begun rest b.talk.frames) (sym is)
-            (quiet_as a.talk.end home (sides_in start []) a b (taken ++ a.talk.pending)
-            ((taken ++ more) ++ b.talk.pending) begun rest a.talk.frames b.talk.frames quiet same
-            (ap (λ (z : Talk). z.frames) is) h.served.stands);
-      };
-    }
+    let left = drop (length more) a.talk.pending in
+    let pending : b.talk.pending ≡ left = ap (λ (z : Talk). z.pending) is in
+    let same : (taken ++ more) ++ left ≡ taken ++ a.talk.pending
+    = ap (λ z. (taken ++ more) ++ z) (sym pending) ∙ append_assoc taken more b.talk.pending
+    ∙ ap (λ z. taken ++ z) (sym parts) in
+    with_end a.talk.end left home start a b bytes taken (taken ++ more) rest begun h is
+    (λ none. none) (quiet_as a.talk.end home (sides_in start []) a b (taken ++ a.talk.pending)
+    ((taken ++ more) ++ left) begun rest a.talk.frames a.talk.frames quiet same refl h.served.stands)
 
 -- ---- all turns
 
@@ -388,38 +325,21 @@ waits_for home start a bytes taken rest begun h wants =
     let holds = h.stream wants.free.unended in
     (keeps_none (front rest) rest a.talk.stream holds.1 holds.0 wants.unbroken).0
 
--- nothing came, was taken or was begun
-still : {V : Type 0} {way : Way V} (home : Home) (start b : Place way) (bytes taken : List ℕ)
-    (begun : List Begun) → HoldsSome home start b bytes taken begun
-    → HoldsSome home start b (bytes ++ []) (taken ++ []) (begun ++ [])
-still home start b bytes taken begun h =
-    subst (λ z. HoldsSome home start b (bytes ++ []) (taken ++ []) z) (sym (append-nil begun))
-    (subst (λ z. HoldsSome home start b z (taken ++ []) begun) (sym (append-nil bytes))
-    (subst (λ z. HoldsSome home start b bytes z begun) (sym (append-nil taken)) h))
-
 turn_holds : {V : Type 0} {way : Way V} (home : Home) (start a b : Place way) (t : Turn)
     (bytes taken : List ℕ) (begun : List Begun)
     → HoldsSome home start a bytes taken begun → Turns t a b
     → HoldsSome home start b (bytes ++ came_in t) (taken ++ taken_in t) (begun ++ begun_at t)
 turn_holds home start a b (Came piece) bytes taken begun h k =
-    subst (λ z. HoldsSome home start b (bytes ++ piece) (taken ++ []) z) (sym (append-nil begun))
-    (subst (λ z. HoldsSome home start b (bytes ++ piece) z begun) (sym (append-nil taken))
-    (came_to b.talk.end home start a b bytes taken piece h.0 begun h.1 k.0 k.1.0 k.2
-    (waits_for home start a bytes taken h.0 begun h.1 k.0) refl k.1.1))
+    simp append-nil (came_to b.talk.end home start a b bytes taken piece h.0 begun h.1 k.0 k.1.0 k.2
+    (waits_for home start a bytes taken h.0 begun h.1 k.0) refl k.1.1)
 turn_holds home start a b (Began one) bytes taken begun h k =
-    subst (λ z. HoldsSome home start b z (taken ++ []) (begun ++ one ∷ [])) (sym (append-nil bytes))
-    (subst (λ z. HoldsSome home start b bytes z (begun ++ one ∷ [])) (sym (append-nil taken))
-    (began_to home start a b bytes taken h.0 begun one h.1 k.0 k.1))
+    simp append-nil (began_to home start a b bytes taken h.0 begun one h.1 k.0 k.1)
 turn_holds home start a b Rested bytes taken begun h (inl r, quiet) =
-    still home start b bytes taken begun
-    (h.0, same_talk home start a b bytes taken h.0 begun h.1 r.1 quiet)
+    simp append-nil (h.0, same_talk home start a b bytes taken h.0 begun h.1 r.1 quiet)
 turn_holds home start a b Rested bytes taken begun h (inr r, quiet) =
-    still home start b bytes taken begun
-    (h.0, ran_out home start a b bytes taken h.0 begun h.1 r quiet)
+    simp append-nil (h.0, ran_out home start a b bytes taken h.0 begun h.1 r quiet)
 turn_holds home start a b (Took more) bytes taken begun h k =
-    subst (λ z. HoldsSome home start b (bytes ++ []) (taken ++ more) z) (sym (append-nil begun))
-    (subst (λ z. HoldsSome home start b z (taken ++ more) begun) (sym (append-nil bytes))
-    (h.0, took home start a b bytes taken more h.0 begun h.1 k.0 k.1 k.2))
+    simp append-nil (h.0, took home start a b bytes taken more h.0 begun h.1 k.0 k.1 k.2)
 
 turns_hold : {V : Type 0} {way : Way V} (home : Home) (start a b : Place way) (turns : List Turn)
     (bytes taken : List ℕ) (begun : List Begun)
@@ -427,19 +347,10 @@ turns_hold : {V : Type 0} {way : Way V} (home : Home) (start a b : Place way) (t
     → HoldsSome home start b (bytes ++ received turns) (taken ++ handed_out turns)
     (begun ++ begun_in turns)
 turns_hold home start a b [] bytes taken begun h is =
-    still home start b bytes taken begun
-    (subst (λ z. HoldsSome home start z bytes taken begun) is h)
+    simp append-nil (subst (λ z. HoldsSome home start z bytes taken begun) is h)
 turns_hold home start a b (t ∷ ts) bytes taken begun h k =
-    subst (λ z. HoldsSome home start b (bytes ++ (came_in t ++ received ts))
-    (taken ++ (taken_in t ++ handed_out ts)) z) (append_assoc begun (begun_at t) (begun_in ts))
-    (subst (λ z. HoldsSome home start b z (taken ++ (taken_in t ++ handed_out ts))
-    ((begun ++ begun_at t) ++ begun_in ts))
-    (append_assoc bytes (came_in t) (received ts))
-    (subst (λ z. HoldsSome home start b ((bytes ++ came_in t) ++ received ts) z
-    ((begun ++ begun_at t) ++ begun_in ts))
-    (append_assoc taken (taken_in t) (handed_out ts))
-    (turns_hold home start k.0 b ts (bytes ++ came_in t) (taken ++ taken_in t)
-    (begun ++ begun_at t) (turn_holds home start a k.0 t bytes taken begun h k.1) k.2)))
+    simp append_assoc at (turns_hold home start k.0 b ts (bytes ++ came_in t) (taken ++ taken_in t)
+    (begun ++ begun_at t) (turn_holds home start a k.0 t bytes taken begun h k.1) k.2)
 
 pub turns_serve : {V : Type 0} (d : DeskOf V) → TurnsServe d
 turns_serve d home wire turns a b is h =

@@ -1,32 +1,25 @@
 -- Turns of a connection, and frames whose answers are written at once.
-use Rattle.std.proofs.Common.{◌≡◌, ◌≢◌, inl, refl, sym, ap, subst, ◌∙◌, ℕ, ◌<◌, ◌≤◌}
-use Rattle.std.proofs.Common.{List, [], ◌∷◌, ◌++◌, Option, None, Some, Bool, true, false, cond}
-use Rattle.std.proofs.Common.{eqb, arith}
+use Rattle.std.proofs.Common.{◌≡◌, ◌≢◌, inl, refl, sym, ap, subst, ◌∙◌, ℕ, ◌<◌, ◌≤◌, List, [], ◌∷◌}
+use Rattle.std.proofs.Common.{◌++◌, Option, None, Some, Bool, true, false, cond, eqb, arith}
 use Rattle.std.proofs.lemmas.Bool.{eqb-true, eqb-false}
 use Rattle.std.specs.Io.KnownBytes.{Appends}
 use Rattle.lines.specs.Bytes.{AppendsPart}
-use Rattle.answers.specs.Seen.{Seen}
-use Rattle.answers.specs.declared.desk.Desk.{Ghosts as DeskOf}
+use Rattle.answers.specs.{Seen.Seen, declared.desk.Desk.Ghosts as DeskOf}
 use Rattle.store.specs.declared.home.Home.{Home}
-use Rattle.wire.specs.declared.fault.WireFault.{WireFault}
-use Rattle.wire.specs.declared.frame.Frame.{Frame}
-use Rattle.wire.specs.declared.standing.Difference.{Difference}
-use Rattle.wire.specs.Stream.{Feeds, IsKept, Reader}
-use Rattle.serving.specs.declared.ends.FrameEnd.{FrameEnd}
-use Rattle.serving.specs.declared.ends.FrameEnd.TheVariants as close
-use Rattle.serving.specs.declared.ends.ConnectionEnd.{ConnectionEnd}
-use Rattle.serving.specs.declared.ends.ConnectionEnd.TheVariants as end
-use Rattle.serving.specs.declared.ends.FrameFault.TheVariants as fault
-use Rattle.serving.specs.Connection.{Begun, Sides, sides, ServesOne, Serves, BreaksOff}
-use Rattle.serving.specs.Connection.{FailsIn, Fails, serve_frame, answer_bytes}
-use Rattle.serving.specs.Making.{Way, Outside}
-use Rattle.serving.specs.declared.permission.Permission.{Permission}
-use Rattle.serving.specs.declared.peers.Peers.{Ghosts as PeersOf}
+use Rattle.wire.specs.declared.{fault.WireFault.WireFault, standing.Difference.Difference}
+use Rattle.wire.specs.{declared.frame.Frame.Frame, Stream.Feeds, Stream.IsKept, Stream.Reader}
+use Rattle.serving.specs.declared.ends.{FrameEnd.FrameEnd, ConnectionEnd.ConnectionEnd}
+use Rattle.serving.specs.Connection.{Begun, Sides, sides, ServesOne, Serves, BreaksOff, FailsIn}
+use Rattle.serving.specs.Connection.{Fails, serve_frame, answer_bytes}
+use Rattle.serving.specs.{Making.Way, Making.Outside, model.Pieces.IsBatch, model.Pieces.IsPiece}
+use Rattle.serving.specs.declared.{permission.Permission.Permission, peers.Peers.Ghosts as PeersOf}
 use Rattle.serving.specs.Turns.{Talk, Advances, LeavesAt, ReadsTo, moment}
-use Rattle.serving.specs.model.Pieces.{IsBatch, IsPiece}
 use Rattle.serving.specs.model.Turning.{end_after, Leaves, or_broken}
 use Rattle.serving.proofs.Connecting.{serves_none, serves_more, serves_last, fails_last}
 use Rattle.serving.proofs.Pieces.{piece_ends, piece_breaks, piece_waits, nothing_begun}
+use Rattle.serving.specs.declared.ends.FrameEnd.TheVariants as close
+use Rattle.serving.specs.declared.ends.ConnectionEnd.TheVariants as end
+use Rattle.serving.specs.declared.ends.FrameFault.TheVariants as fault
 
 -- ---- one frame
 
@@ -38,8 +31,7 @@ leaves_at (Some close.Stopped) home a b one count few h = h
 leaves_at (Some close.Down) home a b one count few h = h
 leaves_at {V} {way} None home a b one count few h = go (eqb count 64) refl
   where
-    go : (t : Bool) → eqb count 64 ≡ t
-        → LeavesAt (cond t (Some end.Frames) None) home a b one count
+    go : (t : Bool) → eqb count 64 ≡ t → LeavesAt (cond t (Some end.Frames) None) home a b one count
     go true is = (h, eqb-true _ _ is)
     go false is = (h, let no = eqb-false _ _ is in omega (arith, few, no))
 
@@ -113,8 +105,7 @@ broken_off home x y p q w v o n one c none h due k =
 pub leaves_more : {V : Type 0} {way : Way V} (e : Option ConnectionEnd) (home : Home)
     (a : Sides way)
     (x y : Seen) (p q : List ℕ) (w v : Option (List ℕ)) (o n : Outside way) (begun : List Begun)
-    (one : Begun) (count : ℕ)
-    → p ≡ [] → Serves home a (sides x w o) begun
+    (one : Begun) (count : ℕ) → p ≡ [] → Serves home a (sides x w o) begun
     → LeavesAt e home (sides x (Some p) o) (sides y (Some q) n) one count → Appends w v q
     → Leaves e home a (sides y v n) (begun ++ one ∷ []) count
 leaves_more None home a x y p q w v o n begun one count none h k more = (
@@ -136,16 +127,11 @@ leaves_more (Some end.Frames) home a x y p q w v o n begun one count none h k mo
 leaves_more (Some end.NoMemory) home a x y p q w v o n begun one count none h k more =
     fails_last fault.NoMemory fault.NoMemory home a (sides x w o) (sides y v n) begun one refl h
     (failed_on home x y p q w v o n one none k more)
-leaves_more (Some end.End) home a x y p q w v o n begun one count none h k more = absurd k
-leaves_more (Some end.Reads) home a x y p q w v o n begun one count none h k more = absurd k
-leaves_more (Some (end.Fault e)) home a x y p q w v o n begun one count none h k more = absurd k
-leaves_more (Some end.Read) home a x y p q w v o n begun one count none h k more = absurd k
-leaves_more (Some end.Write) home a x y p q w v o n begun one count none h k more = absurd k
+leaves_more _ home a x y p q w v o n begun one count none h k more = absurd k
 
 -- an answer that was not written whole is one of a frame that was served
 breaks_at : {V : Type 0} {way : Way V} (e : Option ConnectionEnd) (home : Home) (x y : Seen)
-    (p q : List ℕ)
-    (w v : Option (List ℕ)) (o n : Outside way) (one : Begun) (count : ℕ)
+    (p q : List ℕ) (w v : Option (List ℕ)) (o n : Outside way) (one : Begun) (count : ℕ)
     → p ≡ [] → LeavesAt e home (sides x (Some p) o) (sides y (Some q) n) one count → q ≢ []
     → AppendsPart w v q → BreaksOff home (sides x w o) (sides y v n) one
 breaks_at None home x y p q w v o n one count none k due part =
@@ -158,16 +144,11 @@ breaks_at (Some end.Frames) home x y p q w v o n one count none k due part =
     broken_off home x y p q w v o n one None none k.0 due part
 breaks_at (Some end.NoMemory) home x y p q w v o n one count none k due part =
     absurd (due (k.2.silent ∙ ap (λ z. z ++ []) none))
-breaks_at (Some end.End) home x y p q w v o n one count none k due part = absurd k
-breaks_at (Some end.Reads) home x y p q w v o n one count none k due part = absurd k
-breaks_at (Some (end.Fault e)) home x y p q w v o n one count none k due part = absurd k
-breaks_at (Some end.Read) home x y p q w v o n one count none k due part = absurd k
-breaks_at (Some end.Write) home x y p q w v o n one count none k due part = absurd k
+breaks_at _ home x y p q w v o n one count none k due part = absurd k
 
 pub leaves_cut : {V : Type 0} {way : Way V} (e : Option ConnectionEnd) (home : Home) (a : Sides way)
     (x y : Seen) (p q : List ℕ) (w v : Option (List ℕ)) (o n : Outside way) (begun : List Begun)
-    (one : Begun) (count : ℕ)
-    → p ≡ [] → Serves home a (sides x w o) begun
+    (one : Begun) (count : ℕ) → p ≡ [] → Serves home a (sides x w o) begun
     → LeavesAt e home (sides x (Some p) o) (sides y (Some q) n) one count → q ≢ []
     → AppendsPart w v q → Fails fault.Write home a (sides y v n) (begun ++ one ∷ [])
 leaves_cut e home a x y p q w v o n begun one count none h k due part =
@@ -176,8 +157,7 @@ leaves_cut e home a x y p q w v o n begun one count none h k due part =
 
 -- with the connection open, all frames so far are served
 pub open_serves : {V : Type 0} {way : Way V} (e : Option ConnectionEnd) (home : Home)
-    (a b : Sides way)
-    (begun : List Begun) (count : ℕ) → e ≡ None → Leaves e home a b begun count
+    (a b : Sides way) (begun : List Begun) (count : ℕ) → e ≡ None → Leaves e home a b begun count
     → Serves home a b begun × (count < 64)
 open_serves None home a b begun count none h = h
 open_serves (Some e) home a b begun count none h = absurd cc
@@ -214,10 +194,8 @@ piece_of {V} {way} {may} None result None home a b stream given left begun befor
 
 -- the piece itself ended the connection
 pub piece_stops : {V : Type 0} {way : Way V} {may : Permission} (e : ConnectionEnd) (home : Home)
-    (a : Sides way)
-    (piece : List ℕ) (old new : Talk) (before : ℕ)
-    → ReadsTo (Some e) piece old new → before < 64
-    → (begun : List Begun) × (rest : List ℕ)
+    (a : Sides way) (piece : List ℕ) (old new : Talk) (before : ℕ)
+    → ReadsTo (Some e) piece old new → before < 64 → (begun : List Begun) × (rest : List ℕ)
     × IsPiece may (Some e) home a a (old.stream.held ++ piece) begun rest before before new.stream
 piece_stops (end.Fault e) home a piece old new before h few = (
   [],
@@ -241,10 +219,4 @@ piece_stops end.NoMemory home a piece old new before h few = (
     ends = inl (serves_none home a, few);
   },
 )
-piece_stops end.End home a piece old new before h few = absurd h
-piece_stops end.Stopped home a piece old new before h few = absurd h
-piece_stops end.Frames home a piece old new before h few = absurd h
-piece_stops end.Reads home a piece old new before h few = absurd h
-piece_stops end.Read home a piece old new before h few = absurd h
-piece_stops end.Write home a piece old new before h few = absurd h
-piece_stops end.Down home a piece old new before h few = absurd h
+piece_stops _ home a piece old new before h few = absurd h

@@ -1,40 +1,31 @@
 -- The frames that wait in a connection, served one after the other.
-use Rattle.std.proofs.Common.{◌≡◌, ◌≢◌, inl, inr, refl, sym, ap, subst, ◌∙◌, ℕ, ◌+◌, ◌<◌, ◌≤◌}
-use Rattle.std.proofs.Common.{List, [], ◌∷◌, ◌++◌, length, Option, None, Some, arith}
-use Rattle.std.proofs.lemmas.List.{drop_all}
+use Rattle.std.proofs.Common.{◌≡◌, ◌≢◌, inl, inr, refl, sym, ap, subst, ◌∙◌, ℕ, ◌+◌, ◌<◌, ◌≤◌, List}
+use Rattle.std.proofs.Common.{[], ◌∷◌, ◌++◌, length, Option, None, Some, arith}
+use Rattle.std.{proofs.lemmas.List.drop_all, specs.declared.io.Write.Ghosts as WriteOf}
 use Rattle.std.specs.Io.KnownBytes.{Appends, Consumes}
-use Rattle.std.specs.declared.io.Write.{Ghosts as WriteOf}
 use Rattle.lines.specs.Bytes.{AppendsPart}
 use Rattle.answers.specs.declared.desk.Desk.{Ghosts as DeskOf}
 use Rattle.store.specs.declared.home.Home.{Home}
-use Rattle.wire.specs.declared.fault.WireFault.{WireFault}
-use Rattle.wire.specs.declared.frame.Frame.{Frame}
+use Rattle.wire.specs.declared.{fault.WireFault.WireFault, frame.Frame.Frame}
 use Rattle.wire.specs.declared.values.Version.{Version}
 use Rattle.wire.specs.Stream.{Feeds, IsKept, Reader, holding}
-use Rattle.serving.specs.declared.ends.ConnectionEnd.{ConnectionEnd}
-use Rattle.serving.specs.declared.ends.ConnectionEnd.TheVariants as end
-use Rattle.serving.specs.declared.permission.Permission.{Permission}
-use Rattle.serving.specs.declared.peers.Peers.{Ghosts as PeersOf}
-use Rattle.serving.specs.declared.ends.ServingOutcome.{ServingOutcome}
-use Rattle.serving.specs.declared.source.Source.{Ghosts as SourceOf}
+use Rattle.serving.specs.declared.ends.{ConnectionEnd.ConnectionEnd, ServingOutcome.ServingOutcome}
+use Rattle.serving.specs.declared.{permission.Permission.Permission, peers.Peers.Ghosts as PeersOf}
+use Rattle.serving.specs.{declared.source.Source.Ghosts as SourceOf, Making.Way}
 use Rattle.serving.specs.Connection.{Begun, frames_of, AreUnder, IsConnection, Sides}
-use Rattle.serving.specs.Making.{Way}
 use Rattle.serving.specs.Sessions.{Line, line, outside, reads_of, sides_of}
 use Rattle.serving.specs.Turns.{Talk, BeginsNext, IsFree, LeavesAt, OnlyReads, ReadsTo, Rests}
-use Rattle.serving.specs.Turns.{WantsRead, after_sent, broken_by, ended, moment, new_talk}
-use Rattle.serving.specs.Turns.{sides_at}
-use Rattle.serving.specs.model.Pieces.{IsBatch, IsPiece}
+use Rattle.serving.specs.Turns.{WantsRead, after_sent, broken_by, ended, moment, new_talk, sides_at}
+use Rattle.serving.specs.model.{Pieces.IsBatch, Pieces.IsPiece, Turning.Leaves}
 use Rattle.serving.specs.model.Sessions.{ServesPiece, ServesWaiting}
-use Rattle.serving.specs.model.Turning.{Leaves}
-use Rattle.serving.proofs.Connecting.{begun_more, counts_more, serves_none}
-use Rattle.serving.proofs.Connecting.{under_both}
+use Rattle.serving.proofs.Connecting.{begun_more, counts_more, serves_none, under_both}
 use Rattle.serving.proofs.Pieces.{SoFar, nothing_yet, so_far_more, stops_at_piece}
 use Rattle.serving.proofs.Turning.{leaves_cut, leaves_more, open_serves, piece_of, piece_stops}
+use Rattle.serving.specs.declared.ends.ConnectionEnd.TheVariants as end
 
 -- the frames that waited first are served up to here, and their answers are written
 pub record HasServed {V : Type 0} {way : Way V} (may : Permission) (place : Home) (a b : Sides way)
-    (first c : Talk)
-    (begun : List Begun) : Type 0 where
+    (first c : Talk) (begun : List Begun) : Type 0 where
   pub home : c.home ≡ first.home
   pub wire : c.wire ≡ first.wire
   pub stream : c.stream ≡ first.stream
@@ -46,8 +37,7 @@ pub record HasServed {V : Type 0} {way : Way V} (may : Permission) (place : Home
   pub leaves : Leaves c.end place a b begun c.frames
 
 pub served_none : {V : Type 0} {way : Way V} {may : Permission} (home : Home) (a : Sides way)
-    (first : Talk)
-    → IsFree first → first.frames < 64 → HasServed may home a a first first []
+    (first : Talk) → IsFree first → first.frames < 64 → HasServed may home a a first first []
 served_none home a first free few = record {
   home = refl;
   wire = refl;
@@ -66,8 +56,7 @@ turn_as : {V U : Type 0} (d : DeskOf V) (p : PeersOf U) (first c later : Talk)
     (x y : V) (o n : U) (one : Begun) (e : Option ConnectionEnd) (count : ℕ)
     → c.home ≡ first.home → c.wire ≡ first.wire
     → LeavesAt e c.home (sides_at d p c.wire (moment x o c))
-    (sides_at d p c.wire (moment y n later))
-    one count
+    (sides_at d p c.wire (moment y n later)) one count
     → LeavesAt e first.home (sides_at d p first.wire (moment x o c))
     (sides_at d p first.wire (moment y n later)) one count
 turn_as d p first c later x y o n one e count home wire h =
@@ -81,9 +70,7 @@ pub waiting_more : {V U X : Type 0} {may : Permission} (d : DeskOf V) (p : Peers
     (w : WriteOf X)
     (first c later written : Talk) (start m b : Line V U X) (begun : List Begun) (one : Begun)
     → HasServed may first.home (sides_of d p w first.wire start) (sides_of d p w first.wire m) first
-    c
-    begun
-    → BeginsNext c later one.frame → one.may ≡ may
+    c begun → BeginsNext c later one.frame → one.may ≡ may
     → LeavesAt later.end c.home (sides_at d p c.wire (moment m.node m.peers c))
     (sides_at d p c.wire (moment b.node b.peers later)) one later.frames
     → Appends (w.contents m.writer) (w.contents b.writer) later.pending
@@ -122,14 +109,11 @@ some_end h = cc
 pub waiting_cut : {V U X : Type 0} {may : Permission} (d : DeskOf V) (p : PeersOf U) (w : WriteOf X)
     (first c later kept : Talk) (start m b : Line V U X) (begun : List Begun) (one : Begun)
     → HasServed may first.home (sides_of d p w first.wire start) (sides_of d p w first.wire m) first
-    c
-    begun
-    → BeginsNext c later one.frame → one.may ≡ may
+    c begun → BeginsNext c later one.frame → one.may ≡ may
     → LeavesAt later.end c.home (sides_at d p c.wire (moment m.node m.peers c))
     (sides_at d p c.wire (moment b.node b.peers later)) one later.frames
     → later.pending ≢ [] → AppendsPart (w.contents m.writer) (w.contents b.writer) later.pending
-    → kept ≡ later
-    → ServesWaiting d p w may (Some end.Write) first kept start b
+    → kept ≡ later → ServesWaiting d p w may (Some end.Write) first kept start b
 waiting_cut {V} {U} {X} {may} d p w first c later kept start m b begun one h next under turn due
     part is =
     let serves = open_serves c.end first.home _ _ begun c.frames next.free.unended h.leaves in
@@ -170,13 +154,9 @@ no_fault (Some e) h = absurd (some_end h)
 
 -- the connection ended before
 rests_ended : {V U X : Type 0} {may : Permission} (d : DeskOf V) (p : PeersOf U) (w : WriteOf X)
-    (first c : Talk)
-    (start m : Line V U X) (begun : List Begun) (e : Option ConnectionEnd)
+    (first c : Talk) (start m : Line V U X) (begun : List Begun) (e : Option ConnectionEnd)
     → HasServed may first.home (sides_of d p w first.wire start) (sides_of d p w first.wire m) first
-    c
-    begun
-    → c.end ≡ e → (IsFree c → ⊥)
-    → ServesWaiting d p w may c.end first c start m
+    c begun → c.end ≡ e → (IsFree c → ⊥) → ServesWaiting d p w may c.end first c start m
 rests_ended d p w first c start m begun None h is not =
     absurd (not (record { unended = is; taken = h.taken }))
 rests_ended d p w first c start m begun (Some e) h is not = (
@@ -206,15 +186,11 @@ rests_ended d p w first c start m begun (Some e) h is not = (
 
 -- all that came is served
 rests_served : {V U X : Type 0} {may : Permission} (d : DeskOf V) (p : PeersOf U) (w : WriteOf X)
-    (first c : Talk)
-    (start m : Line V U X) (begun : List Begun)
+    (first c : Talk) (start m : Line V U X) (begun : List Begun)
     → HasServed may first.home (sides_of d p w first.wire start) (sides_of d p w first.wire m) first
-    c
-    begun
-    → IsFree c → c.waiting ≡ [] → IsKept c.stream.fault
+    c begun → IsFree c → c.waiting ≡ [] → IsKept c.stream.fault
     → ServesWaiting d p w may (broken_by c.stream.fault) first (ended c (broken_by c.stream.fault))
-    start
-    m
+    start m
 rests_served d p w first c start m begun h free served kept =
     let serves = open_serves c.end first.home _ _ begun c.frames free.unended h.leaves in (
       None,
@@ -248,15 +224,10 @@ pub waiting_done : {V U X : Type 0} {may : Permission} (d : DeskOf V) (p : Peers
     (w : WriteOf X)
     (first c later : Talk) (start m : Line V U X) (node : V) (peers : U) (begun : List Begun)
     → HasServed may first.home (sides_of d p w first.wire start) (sides_of d p w first.wire m) first
-    c
-    begun
-    → node ≡ m.node → peers ≡ m.peers → Rests c later
+    c begun → node ≡ m.node → peers ≡ m.peers → Rests c later
     → ServesWaiting d p w may later.end first later start (line node peers m.writer)
 waiting_done {V} {U} {X} {may} d p w first c later start m node peers begun h same others rests =
-    subst (λ z. ServesWaiting d p w may later.end first later start (line z peers m.writer))
-    (sym same)
-    (subst (λ z. ServesWaiting d p w may later.end first later start (line m.node z m.writer))
-    (sym others) (go rests))
+    rw (same, others) (go rests)
   where
     go : Rests c later → ServesWaiting d p w may later.end first later start m
     go (inl r) =
@@ -267,8 +238,7 @@ waiting_done {V} {U} {X} {may} d p w first c later start m node peers begun h sa
         (rests_served d p w first c start m begun h r.free r.served r.kept)
 
 read_on : (e : Option ConnectionEnd) (piece : List ℕ) (old new : Talk) → e ≡ None
-    → ReadsTo e piece old new
-    → Feeds (old.stream.held ++ piece) new.waiting new.stream
+    → ReadsTo e piece old new → Feeds (old.stream.held ++ piece) new.waiting new.stream
 read_on None piece old new none h = h
 read_on (Some e) piece old new none h = absurd (some_end none)
 
@@ -281,11 +251,9 @@ pub piece_waited : {V U X : Type 0} {may : Permission} (d : DeskOf V) (p : Peers
 piece_waited {V} {U} {X} {may} d p w result piece old mid new a b only none reads h =
     let batch =
     subst (λ z. IsBatch may h.0 old.home (sides_of d p w z a) (sides_of d p w z b) mid.waiting h.1
-    h.2
-    old.frames new.frames) only.wire
+    h.2 old.frames new.frames) only.wire
     (subst (λ z. IsBatch may h.0 z (sides_of d p w mid.wire a) (sides_of d p w mid.wire b)
-    mid.waiting
-    h.1 h.2 old.frames new.frames) only.home
+    mid.waiting h.1 h.2 old.frames new.frames) only.home
     (subst (λ z. IsBatch may h.0 mid.home (sides_of d p w mid.wire a) (sides_of d p w mid.wire b)
     mid.waiting h.1 h.2 z new.frames) only.frames h.3)) in
     let ends = h.4 in
@@ -297,16 +265,14 @@ piece_waited {V} {U} {X} {may} d p w result piece old mid new a b only none read
 
 -- the piece itself ended the connection
 pub piece_stopped : {V U X : Type 0} {may : Permission} (d : DeskOf V) (p : PeersOf U)
-    (w : WriteOf X) (e : ConnectionEnd)
-    (piece : List ℕ) (old new : Talk) (a : Line V U X)
+    (w : WriteOf X) (e : ConnectionEnd) (piece : List ℕ) (old new : Talk) (a : Line V U X)
     → OnlyReads old new → new.end ≡ Some e → ReadsTo new.end piece old new → old.frames < 64
     → ServesPiece d p w may (Some e) piece old new a a
 piece_stopped {V} {U} {X} {may} d p w e piece old new a only is reads few =
     let here = sides_of d p w old.wire a in
     subst (λ z. (begun : List Begun) × (rest : List ℕ)
     × IsPiece may (Some e) old.home here here (old.stream.held ++ piece) begun rest old.frames z
-    new.stream) (sym only.frames)
-    (piece_stops e old.home here piece old new old.frames
+    new.stream) (sym only.frames) (piece_stops e old.home here piece old new old.frames
     (subst (λ z. ReadsTo z piece old new) is reads) few)
 
 -- a frame fewer waits
@@ -320,8 +286,7 @@ fewer_wait c later written frame n next is =
 
 pub new_wants : (home : Home) (wire : Version) (c : Talk) → c ≡ new_talk home wire → WantsRead c
 new_wants home wire c is =
-    subst (λ z. WantsRead z) (sym is)
-    (record {
+    subst (λ z. WantsRead z) (sym is) (record {
       free = record { unended = refl; taken = refl };
       served = refl;
       unbroken = refl;
@@ -329,8 +294,7 @@ new_wants home wire c is =
 
 -- nothing was read yet
 pub new_so_far : {V : Type 0} {way : Way V} {may : Permission} (home : Home) (wire : Version)
-    (a : Sides way)
-    (read : Option (List ℕ)) (c : Talk) → c ≡ new_talk home wire
+    (a : Sides way) (read : Option (List ℕ)) (c : Talk) → c ≡ new_talk home wire
     → SoFar may home a a [] [] [] read read c.frames c.stream
 new_so_far {V} {way} {may} home wire a read c is =
     subst (λ (z : Talk). SoFar may home a a [] [] [] read read z.frames z.stream) (sym is)
@@ -339,13 +303,11 @@ new_so_far {V} {way} {may} home wire a read c is =
 -- a piece was served, seen from the beginning of the connection
 from_first : {V U X : Type 0} {may : Permission} (d : DeskOf V) (p : PeersOf U) (w : WriteOf X)
     (result : Option ConnectionEnd) (piece : List ℕ) (old new : Talk) (a b : Line V U X)
-    (home : Home)
-    (wire : Version)
+    (home : Home) (wire : Version)
     → old.home ≡ home → old.wire ≡ wire → ServesPiece d p w may result piece old new a b
     → (begun : List Begun) × (rest : List ℕ)
     × IsPiece may result home (sides_of d p w wire a) (sides_of d p w wire b)
-    (old.stream.held ++ piece)
-    begun rest old.frames new.frames new.stream
+    (old.stream.held ++ piece) begun rest old.frames new.frames new.stream
 from_first {V} {U} {X} {may} d p w result piece old new a b home wire is spoken h =
     subst (λ z. (begun : List Begun) × (rest : List ℕ)
     × IsPiece may result home (sides_of d p w z a) (sides_of d p w z b) (old.stream.held ++ piece)
@@ -360,8 +322,7 @@ pub source_more : {V U X : Type 0} {may : Permission} (d : DeskOf V) (p : PeersO
     (wire : Version) (start a b : Line V U X) (old new : Talk) (bytes rest piece : List ℕ)
     (begun : List Begun) (read left later : Option (List ℕ)) (result : Option ConnectionEnd)
     → SoFar may home (sides_of d p w wire start) (sides_of d p w wire a) bytes begun rest read left
-    old.frames old.stream
-    → Consumes left later piece → old.home ≡ home → old.wire ≡ wire
+    old.frames old.stream → Consumes left later piece → old.home ≡ home → old.wire ≡ wire
     → ServesPiece d p w may result piece old new a b → result ≡ None
     → (bytes : List ℕ) × (begun : List Begun) × (rest : List ℕ)
     × SoFar may home (sides_of d p w wire start) (sides_of d p w wire b) bytes begun rest read later
@@ -395,8 +356,7 @@ pub source_stops : {V U X S : Type 0} {may : Permission} (d : DeskOf V) (p : Pee
     → served ≡ record { frames = new.frames; end = e }
     → (bytes : List ℕ) × (begun : List Begun) × (rest : List ℕ)
     × IsConnection may served home (sides_of d p w wire start) (sides_of d p w wire b) bytes begun
-    rest
-    read (s.remaining source) (reads_of s source)
+    rest read (s.remaining source) (reads_of s source)
 source_stops {V} {U} {X} {S} {may} d p w s e home wire start a b old new bytes rest piece begun read
     left source result
     served h more is spoken k some bounded whole told =

@@ -1,39 +1,30 @@
 -- What a client is answered (the project's own).
 use Rattle.std.specs.Prelude.{◌≡◌, ℕ, nat_lt, ◌==◌, if◌then◌else◌, List, length, take, drop, Option}
-use Rattle.std.specs.Prelude.{None, Some}
-use Rattle.std.specs.Prelude.{Result, Ok, Err}
-use Rattle.acceptor.specs.declared.ballot.Ballot.{Ballot}
-use Rattle.acceptor.specs.declared.entry.Entry.{Entry}
+use Rattle.std.specs.Prelude.{None, Some, Result, Ok, Err}
+use Rattle.acceptor.specs.declared.{ballot.Ballot.Ballot, entry.Entry.Entry}
 use Rattle.acceptor.specs.declared.message.Message.{Message}
 use Rattle.proposer.specs.declared.role.Role.{Role}
-use Rattle.proposer.specs.declared.role.Role.TheVariants as doing
 use Rattle.store.specs.declared.home.Home.{Home}
-use Rattle.formats.specs.declared.events.Event.{Event}
+use Rattle.formats.specs.declared.{events.Event.Event, styles.SheetStyle.SheetStyle as Style}
 use Rattle.answers.specs.Answers.{told, sheet_at}
-use Rattle.answers.specs.declared.answers.IdState.{IdState}
-use Rattle.answers.specs.declared.answers.IdState.TheVariants as tells
+use Rattle.answers.specs.{declared.answers.IdState.IdState, Seen.Seen}
 use Rattle.replica.specs.declared.roles.fault.NodeFault.{NodeFault}
-use Rattle.replica.specs.declared.roles.fault.NodeFault.TheVariants as fault
-use Rattle.wire.specs.Numbers.{state_in, refusal_in, standing_in}
-use Rattle.wire.specs.Ranges.{IsBody, ToClient, way_of}
-use Rattle.wire.specs.declared.values.ClientRefusal.{ClientRefusal as Refusal}
-use Rattle.wire.specs.declared.values.ClientRefusal.TheVariants as refusal
-use Rattle.wire.specs.declared.values.Version.{Version}
-use Rattle.wire.specs.declared.values.CommandState.{CommandState}
+use Rattle.wire.specs.{Numbers.state_in, Numbers.refusal_in, Numbers.standing_in, Ranges.way_of}
+use Rattle.wire.specs.{Ranges.IsBody, Ranges.ToClient, declared.frame.FrameBody.FrameBody}
+use Rattle.wire.specs.declared.values.{ClientRefusal.ClientRefusal as Refusal, Version.Version}
+use Rattle.wire.specs.declared.values.{CommandState.CommandState, DeskRole.DeskRole}
 use Rattle.wire.specs.declared.values.CommandState.TheVariants.{Unknown, Pending, Done}
-use Rattle.formats.specs.declared.styles.SheetStyle.{SheetStyle as Style}
-use Rattle.wire.specs.declared.values.DeskRole.{DeskRole}
-use Rattle.wire.specs.declared.values.DeskRole.TheVariants as role
-use Rattle.wire.specs.declared.standing.Difference.{Difference}
-use Rattle.wire.specs.declared.standing.DeskStatus.{DeskStatus}
-use Rattle.wire.specs.declared.standing.Lengths.{Lengths}
-use Rattle.wire.specs.declared.standing.Lengths.TheVariants.{OfThree, OfFive}
-use Rattle.wire.specs.declared.frame.FrameBody.{FrameBody}
-use Rattle.wire.specs.declared.frame.FrameBody.TheVariants as what
-use Rattle.answers.specs.Seen.{Seen}
+use Rattle.wire.specs.declared.standing.{Difference.Difference, DeskStatus.DeskStatus}
+use Rattle.wire.specs.declared.standing.Lengths.{Lengths, TheVariants.OfThree, TheVariants.OfFive}
 use Rattle.serving.specs.Nodes.{Fate, Goes, Starves, Breaks}
 use Rattle.serving.specs.declared.calls.NodeAnswer.{NodeAnswer}
 use Rattle.serving.specs.declared.calls.NodeAnswer.TheVariants.{Taken, Refused}
+use Rattle.proposer.specs.declared.role.Role.TheVariants as doing
+use Rattle.answers.specs.declared.answers.IdState.TheVariants as tells
+use Rattle.replica.specs.declared.roles.fault.NodeFault.TheVariants as fault
+use Rattle.wire.specs.declared.values.ClientRefusal.TheVariants as refusal
+use Rattle.wire.specs.declared.values.DeskRole.TheVariants as role
+use Rattle.wire.specs.declared.frame.FrameBody.TheVariants as what
 
 -- how the node answered
 abbrev pub answer_of : Result (List Message) NodeFault → NodeAnswer

@@ -2,24 +2,20 @@
 use Rattle.std.specs.Prelude.{ℕ, ◌+◌, ◌^◌, ◌<◌, ◌≤◌, ◌==◌, ◌&&◌, if◌then◌else◌, Bool, length}
 use Rattle.std.specs.Prelude.{Option, None, Some}
 use Rattle.acceptor.specs.declared.message.Body.{Body}
-use Rattle.acceptor.specs.declared.message.Body.TheVariants as body
-use Rattle.wire.specs.Numbers.{IsFromThree}
+use Rattle.wire.specs.{Numbers.IsFromThree, declared.values.Version.Version}
 use Rattle.wire.specs.Ranges.{IsDifference, IsEntry, IsId, IsLogLength}
-use Rattle.wire.specs.declared.frame.Frame.{Frame}
-use Rattle.wire.specs.declared.values.Version.{Version}
-use Rattle.wire.specs.declared.frame.FrameBody.{FrameBody}
-use Rattle.wire.specs.declared.frame.FrameBody.TheVariants as what
+use Rattle.wire.specs.declared.frame.{Frame.Frame, FrameBody.FrameBody}
 use Rattle.serving.specs.declared.ends.FrameEnd.{FrameEnd}
-use Rattle.serving.specs.declared.ends.FrameEnd.TheVariants as close
-use Rattle.serving.specs.declared.request.FrameEndRule.{FrameEndRule}
-use Rattle.serving.specs.declared.request.FrameEndRule.TheVariants as ends
-use Rattle.serving.specs.declared.request.Request.{Request}
+use Rattle.serving.specs.declared.request.{FrameEndRule.FrameEndRule, Request.Request}
 use Rattle.serving.specs.declared.request.Request.TheVariants.{Heard, Lagging, Learned, Entered}
 use Rattle.serving.specs.declared.request.Request.TheVariants.{Asked, Printed, Ticked, Stopped}
 use Rattle.serving.specs.declared.request.Request.TheVariants.{Inspected, Copied, Strange, Ignored}
-use Rattle.serving.specs.declared.request.Request.TheVariants.{Denied, Withheld}
 use Rattle.answers.specs.Seen.{Seen}
 use Rattle.store.specs.declared.home.Home.{Home}
+use Rattle.acceptor.specs.declared.message.Body.TheVariants as body
+use Rattle.wire.specs.declared.frame.FrameBody.TheVariants as what
+use Rattle.serving.specs.declared.ends.FrameEnd.TheVariants as close
+use Rattle.serving.specs.declared.request.FrameEndRule.TheVariants as ends
 
 -- the frame as one message, where it is one from a desk to a desk
 abbrev pub body_of : FrameBody → Option Body
@@ -28,23 +24,7 @@ body_of (what.Promise b pos vote) = Some (body.Promise b pos vote)
 body_of (what.Accept b pos e) = Some (body.Accept b pos e)
 body_of (what.Accepted b pos) = Some (body.Accepted b pos)
 body_of (what.Nack b pos promised) = Some (body.Nack b pos promised)
-body_of (what.Behind len) = None
-body_of (what.Decided pos es) = None
-body_of (what.Submit e) = None
-body_of (what.Ask id) = None
-body_of (what.Sheet event round position style) = None
-body_of what.Tick = None
-body_of what.Stop = None
-body_of (what.Taken id) = None
-body_of (what.Told id s) = None
-body_of (what.SheetText bytes) = None
-body_of (what.Refused refusal) = None
-body_of what.Fine = None
-body_of what.Status = None
-body_of (what.Log position) = None
-body_of (what.Await id seconds) = None
-body_of (what.Standing standing) = None
-body_of (what.Entries position length entries) = None
+body_of _ = None
 
 abbrev pub heard : ℕ → ℕ → Option Body → Request
 heard from to None = Ignored
@@ -69,13 +49,7 @@ ours from to (what.Behind len) =
     Lagging (record { from = from; to = to; body = body.Behind len })
 ours from to (what.Decided pos es) =
     Learned (record { from = from; to = to; pos = pos; entries = es })
-ours from to (what.Taken id) = Ignored
-ours from to (what.Told id s) = Ignored
-ours from to (what.SheetText bytes) = Ignored
-ours from to (what.Refused refusal) = Ignored
-ours from to what.Fine = Ignored
-ours from to (what.Standing standing) = Ignored
-ours from to (what.Entries position length entries) = Ignored
+ours from to _ = Ignored
 
 -- a frame for another desk or another hall: a client is told so
 abbrev pub strange : FrameBody → Request
@@ -87,20 +61,7 @@ strange what.Stop = Strange
 strange what.Status = Strange
 strange (what.Log position) = Strange
 strange (what.Await id seconds) = Strange
-strange (what.Prepare b pos) = Ignored
-strange (what.Promise b pos vote) = Ignored
-strange (what.Accept b pos e) = Ignored
-strange (what.Accepted b pos) = Ignored
-strange (what.Nack b pos promised) = Ignored
-strange (what.Behind len) = Ignored
-strange (what.Decided pos es) = Ignored
-strange (what.Taken id) = Ignored
-strange (what.Told id s) = Ignored
-strange (what.SheetText bytes) = Ignored
-strange (what.Refused refusal) = Ignored
-strange what.Fine = Ignored
-strange (what.Standing standing) = Ignored
-strange (what.Entries position length entries) = Ignored
+strange _ = Ignored
 
 abbrev pub is_ours : Home → Frame → Bool
 is_ours home f = (f.hall == home.hall) && (f.to == home.desk)
@@ -113,34 +74,16 @@ abbrev pub AsksInRange : Request → Type 0
 AsksInRange (Entered e) = IsEntry e
 AsksInRange (Asked id) = IsId id
 AsksInRange (Printed event round position style) = position < 2 ^ 32
-AsksInRange (Heard m) = Unit {0}
-AsksInRange (Lagging m) = Unit {0}
 AsksInRange (Learned run) = run.pos + length run.entries ≤ 65536
 AsksInRange (Inspected differs) = IsDifference differs
 AsksInRange (Copied position) = IsLogLength position
-AsksInRange Ticked = Unit {0}
-AsksInRange Stopped = Unit {0}
-AsksInRange Strange = Unit {0}
-AsksInRange Ignored = Unit {0}
-AsksInRange Denied = Unit {0}
-AsksInRange Withheld = Unit {0}
+AsksInRange _ = Unit {0}
 
 -- what can be asked in a version: how the desk is, and entries of its log, from version 3 on
 abbrev pub IsAskedIn : Version → Request → Type 0
-IsAskedIn version (Entered e) = Unit {0}
-IsAskedIn version (Asked id) = Unit {0}
-IsAskedIn version (Printed event round position style) = Unit {0}
 IsAskedIn version (Inspected differs) = IsFromThree version
 IsAskedIn version (Copied position) = IsFromThree version
-IsAskedIn version (Heard m) = Unit {0}
-IsAskedIn version (Lagging m) = Unit {0}
-IsAskedIn version (Learned run) = Unit {0}
-IsAskedIn version Ticked = Unit {0}
-IsAskedIn version Stopped = Unit {0}
-IsAskedIn version Strange = Unit {0}
-IsAskedIn version Ignored = Unit {0}
-IsAskedIn version Denied = Unit {0}
-IsAskedIn version Withheld = Unit {0}
+IsAskedIn version _ = Unit {0}
 
 -- how a request ends the connection of itself: where the desk is down after it, or at a Stop
 abbrev pub ending : Request → FrameEndRule
@@ -150,14 +93,7 @@ ending (Learned run) = ends.IfDown
 ending (Entered e) = ends.IfDown
 ending Ticked = ends.IfDown
 ending Stopped = ends.AtStop
-ending (Asked id) = ends.Never
-ending (Printed event round position style) = ends.Never
-ending (Inspected differs) = ends.Never
-ending (Copied position) = ends.Never
-ending Strange = ends.Never
-ending Ignored = ends.Never
-ending Denied = ends.Never
-ending Withheld = ends.Never
+ending _ = ends.Never
 
 abbrev pub close_by : FrameEndRule → Bool → Option FrameEnd
 close_by ends.Never is_down = None

@@ -1,34 +1,23 @@
 -- One frame after the other, and how a connection ends (the project's own).
 use Rattle.std.specs.Prelude.{◌≡◌, ◌≢◌, ◌⊎◌, ◌≤◌, ◌<◌, ℕ, List, [], ◌∷◌, ◌++◌, length, Option, None}
-use Rattle.std.specs.Prelude.{Some}
-use Rattle.std.specs.List.{flat_map, AllByRecursion}
+use Rattle.std.specs.{Prelude.Some, List.flat_map, List.AllByRecursion}
 use Rattle.std.specs.Io.KnownBytes.{Appends, Consumes, IsAtEnd}
-use Rattle.wire.specs.declared.values.Version.{Version}
-use Rattle.wire.specs.declared.frame.Frame.{Frame}
-use Rattle.wire.specs.declared.frame.FrameBody.{FrameBody}
-use Rattle.wire.specs.declared.standing.Difference.{Difference}
-use Rattle.wire.specs.Ranges.{IsFrame}
-use Rattle.wire.specs.Spelling.{spelling}
+use Rattle.wire.specs.declared.{values.Version.Version, standing.Difference.Difference}
+use Rattle.wire.specs.declared.frame.{Frame.Frame, FrameBody.FrameBody}
+use Rattle.wire.specs.{Ranges.IsFrame, Spelling.spelling}
 use Rattle.wire.specs.Stream.{Waits, Breaks, front, IsOfStream}
 use Rattle.store.specs.declared.home.Home.{Home}
-use Rattle.serving.specs.declared.ends.FrameEnd.{FrameEnd}
-use Rattle.serving.specs.declared.ends.FrameEnd.TheVariants as close
-use Rattle.serving.specs.declared.ends.ConnectionEnd.{ConnectionEnd}
-use Rattle.serving.specs.declared.ends.ConnectionEnd.TheVariants as end
-use Rattle.serving.specs.declared.ends.FrameFault.{FrameFault}
-use Rattle.serving.specs.declared.ends.ServingOutcome.{ServingOutcome}
-use Rattle.serving.specs.declared.ends.FrameFault.TheVariants as fault
+use Rattle.serving.specs.declared.ends.{FrameEnd.FrameEnd, ConnectionEnd.ConnectionEnd}
+use Rattle.serving.specs.declared.ends.{FrameFault.FrameFault, ServingOutcome.ServingOutcome}
 use Rattle.lines.specs.Bytes.{AppendsPart}
-use Rattle.serving.specs.Making.{Way, Outside, Makes}
+use Rattle.serving.specs.{Making.Way, Making.Outside, Making.Makes, Asking.request, Asking.closes}
 use Rattle.answers.specs.Seen.{Seen}
-use Rattle.serving.specs.Nodes.{Fate}
-use Rattle.serving.specs.Answering.{said_in}
-use Rattle.serving.specs.Asking.{request, closes}
-use Rattle.serving.specs.Differing.{withheld}
-use Rattle.serving.specs.Permissions.{permitted}
-use Rattle.serving.specs.declared.permission.Permission.{Permission}
-use Rattle.serving.specs.declared.request.Request.{Request}
+use Rattle.serving.specs.{Nodes.Fate, Answering.said_in, Differing.withheld, Permissions.permitted}
+use Rattle.serving.specs.declared.{permission.Permission.Permission, request.Request.Request}
 use Rattle.serving.specs.Serving.{Act, served, answer, seen_after}
+use Rattle.serving.specs.declared.ends.FrameEnd.TheVariants as close
+use Rattle.serving.specs.declared.ends.ConnectionEnd.TheVariants as end
+use Rattle.serving.specs.declared.ends.FrameFault.TheVariants as fault
 
 -- a frame that was begun, with what its connection may ask, how another desk of the hall differed
 -- by then, if one did, and the fates of its calls
@@ -170,23 +159,20 @@ pub record Serves {V : Type 0} {way : Way V} (home : Home) (a b : Sides way)
 
 -- the frames were served, and the last one ended the connection
 pub record ServesUntil {V : Type 0} {way : Way V} (ends : FrameEnd) (home : Home) (a b : Sides way)
-    (begun front : List Begun)
-    (last : Begun) : Type 0 where
+    (begun front : List Begun) (last : Begun) : Type 0 where
   pub parts : begun ≡ front ++ last ∷ []
   pub stays : StaysOpen home a.seen front
   pub close : close_of home (serve_frames home a.seen front).seen last ≡ Some ends
   pub served : IsServed home a b begun
 
 abbrev pub Closes : {V : Type 0} → {way : Way V} → FrameEnd → Home → Sides way → Sides way
-    → List Begun
-    → Type 0
+    → List Begun → Type 0
 Closes ends home a b begun =
     (front : List Begun) × (last : Begun) × ServesUntil ends home a b begun front last
 
 -- the frames but the last were served, and the last one failed
 pub record FailsLast {V : Type 0} {way : Way V} (why : FrameFault) (home : Home) (a m b : Sides way)
-    (begun front : List Begun)
-    (last : Begun) : Type 0 where
+    (begun front : List Begun) (last : Begun) : Type 0 where
   pub parts : begun ≡ front ++ last ∷ []
   pub before : Serves home a m front
   pub fails : FailsIn why home m b last
@@ -210,8 +196,7 @@ pub record IsOpen {V : Type 0} {way : Way V} (home : Home) (a b : Sides way)
 -- The cause of each end. `rest` is what was read after the frames begun, `left` is what the reader
 -- has left, and `reads` is how often it was read from.
 abbrev pub EndsAt : {V : Type 0} → {way : Way V} → ConnectionEnd → Home → Sides way → Sides way
-    → List Begun
-    → List ℕ → Option (List ℕ) → ℕ → Type 0
+    → List Begun → List ℕ → Option (List ℕ) → ℕ → Type 0
 EndsAt end.End home a b begun rest left reads =
     IsOpen home a b begun × (front rest ≡ Waits) × IsAtEnd left
 EndsAt end.Stopped home a b begun rest left reads = Closes close.Stopped home a b begun
@@ -235,20 +220,12 @@ pub record Reads : Type 0 where
 -- how many reads failed in a connection that ended so: the first one that fails ends it
 abbrev pub failed_at : ConnectionEnd → ℕ
 failed_at end.Read = 1
-failed_at end.End = 0
-failed_at end.Stopped = 0
-failed_at end.Frames = 0
-failed_at end.Reads = 0
-failed_at (end.Fault e) = 0
-failed_at end.Write = 0
-failed_at end.Down = 0
-failed_at end.NoMemory = 0
+failed_at _ = 0
 
 -- a connection that may ask so much: the bytes read are the frames begun and a rest, and the end
 -- came by its cause
 pub record IsConnection {V : Type 0} {way : Way V} (may : Permission) (result : ServingOutcome)
-    (home : Home)
-    (a b : Sides way) (bytes : List ℕ)
+    (home : Home) (a b : Sides way) (bytes : List ℕ)
     (begun : List Begun) (rest : List ℕ) (read left : Option (List ℕ))
     (reads : Reads) : Type 0 where
   pub consumed : Consumes read left bytes

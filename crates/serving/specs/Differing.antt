@@ -3,21 +3,17 @@
 use Rattle.std.specs.Prelude.{ℕ, ◌+◌, ◌-◌, max, Bool, true, false, not, nat_lt, ◌&&◌, List, [], ◌∷◌}
 use Rattle.std.specs.Prelude.{if◌then◌else◌, length, Option, None, Some, slice_get, slice_index}
 use Rattle.std.specs.Prelude.{slice_set}
-use Rattle.acceptor.specs.Entries.{is_same_entry}
-use Rattle.acceptor.specs.declared.entry.Entry.{Entry}
+use Rattle.acceptor.specs.{Entries.is_same_entry, declared.entry.Entry.Entry}
 use Rattle.learner.specs.Steps.{is_desk}
 use Rattle.store.specs.declared.home.Home.{Home}
-use Rattle.wire.specs.declared.frame.Frame.{Frame}
-use Rattle.wire.specs.declared.frame.FrameBody.{FrameBody}
-use Rattle.wire.specs.declared.frame.FrameBody.TheVariants as what
+use Rattle.wire.specs.declared.frame.{Frame.Frame, FrameBody.FrameBody}
 use Rattle.wire.specs.declared.standing.Difference.{Difference}
 use Rattle.wire.specs.declared.standing.Difference.TheVariants.{OtherEntry, Shorter}
-use Rattle.serving.specs.Asking.{is_ours}
-use Rattle.serving.specs.declared.differing.AwaitRequest.{AwaitRequest}
-use Rattle.serving.specs.declared.permission.Permission.{Permission}
-use Rattle.serving.specs.declared.permission.Permission.TheVariants as permission
-use Rattle.serving.specs.declared.request.Request.{Request}
+use Rattle.serving.specs.{Asking.is_ours, declared.permission.Permission.Permission}
+use Rattle.serving.specs.declared.{differing.AwaitRequest.AwaitRequest, request.Request.Request}
 use Rattle.serving.specs.declared.request.Request.TheVariants.{Entered, Inspected, Withheld}
+use Rattle.wire.specs.declared.frame.FrameBody.TheVariants as what
+use Rattle.serving.specs.declared.permission.Permission.TheVariants as permission
 
 -- ---- what is seen of a frame before it is begun
 
@@ -37,8 +33,7 @@ awaited_by home f = if is_ours home f then awaited_what f.what else None
 
 abbrev pub is_all : Permission → Bool
 is_all permission.All = true
-is_all permission.Entries = false
-is_all permission.Sheets = false
+is_all _ = false
 
 -- a desk of the hall says it to this one, on a connection that may ask so much
 abbrev pub hears : Home → Permission → Frame → Bool

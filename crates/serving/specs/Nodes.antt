@@ -2,11 +2,9 @@
 use Rattle.std.specs.Prelude.{true, if◌then◌else◌, List, Result, Ok, Err}
 use Rattle.acceptor.specs.declared.message.Message.{Message}
 use Rattle.proposer.specs.declared.fault.Refusal.{Refusal}
-use Rattle.learner.specs.declared.event.DeskEvent.{DeskEvent}
+use Rattle.learner.specs.{declared.event.DeskEvent.DeskEvent, Steps.Done, Steps.step}
 use Rattle.answers.specs.Seen.{Seen}
-use Rattle.learner.specs.Steps.{Done, step}
-use Rattle.replica.specs.Lengths.{told_by}
-use Rattle.replica.specs.roles.Faults.{refused_as}
+use Rattle.replica.specs.{Lengths.told_by, roles.Faults.refused_as}
 use Rattle.replica.specs.declared.roles.fault.NodeFault.{NodeFault}
 use Rattle.replica.specs.declared.roles.fault.NodeFault.TheVariants.{NoMemory, Down}
 use Rattle.store.specs.declared.home.Home.{Home}

@@ -3,16 +3,11 @@ use Rattle.std.specs.Prelude.{◌≡◌, false, List, [], ◌∷◌}
 use Rattle.answers.specs.Seen.{Seen}
 use Rattle.store.specs.declared.home.Home.{Home}
 use Rattle.wire.specs.declared.frame.Frame.{Frame}
+use Rattle.serving.specs.{declared.request.Request.Request, Asking.request, Permissions.admits}
+use Rattle.serving.specs.declared.request.Request.TheVariants.{Heard, Lagging, Learned}
+use Rattle.serving.specs.Connection.{Begun, answer_frame, serve_frame}
 use Rattle.wire.specs.declared.frame.FrameBody.TheVariants as what
 use Rattle.wire.specs.declared.values.ClientRefusal.TheVariants as refusal
-use Rattle.serving.specs.declared.request.Request.{Request}
-use Rattle.serving.specs.declared.request.Request.TheVariants.{Heard, Lagging, Learned, Entered}
-use Rattle.serving.specs.declared.request.Request.TheVariants.{Asked, Printed, Ticked, Stopped}
-use Rattle.serving.specs.declared.request.Request.TheVariants.{Inspected, Copied, Strange, Ignored}
-use Rattle.serving.specs.declared.request.Request.TheVariants.{Denied, Withheld}
-use Rattle.serving.specs.Asking.{request}
-use Rattle.serving.specs.Connection.{Begun, answer_frame, serve_frame}
-use Rattle.serving.specs.Permissions.{admits}
 
 -- a client is told that its connection may not ask for that
 abbrev pub not_allowed : Home → Begun → List Frame
@@ -24,17 +19,7 @@ abbrev pub turned_away_by : Home → Begun → Request → List Frame
 turned_away_by home b (Heard m) = []
 turned_away_by home b (Lagging m) = []
 turned_away_by home b (Learned run) = []
-turned_away_by home b (Entered e) = not_allowed home b
-turned_away_by home b (Asked id) = not_allowed home b
-turned_away_by home b (Printed event round position style) = not_allowed home b
-turned_away_by home b (Inspected differs) = not_allowed home b
-turned_away_by home b (Copied position) = not_allowed home b
-turned_away_by home b Ticked = not_allowed home b
-turned_away_by home b Stopped = not_allowed home b
-turned_away_by home b Strange = not_allowed home b
-turned_away_by home b Ignored = not_allowed home b
-turned_away_by home b Denied = not_allowed home b
-turned_away_by home b Withheld = not_allowed home b
+turned_away_by home b _ = not_allowed home b
 
 -- The node is not called, nothing is pushed, and the node is as it was.
 pub record TurnsAway (home : Home) (x : Seen) (b : Begun) : Type 0 where

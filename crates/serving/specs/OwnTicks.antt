@@ -1,20 +1,15 @@
 -- A Tick that a desk gives itself: what comes of it is what comes of a client's, but that its
 -- answer is nobody's (the project's own).
 use Rattle.std.specs.Prelude.{List, Option, None}
-use Rattle.answers.specs.Seen.{Seen}
-use Rattle.answers.specs.declared.desk.Desk.{Ghosts as DeskOf}
+use Rattle.answers.specs.{Seen.Seen, declared.desk.Desk.Ghosts as DeskOf}
 use Rattle.store.specs.declared.home.Home.{Home}
-use Rattle.wire.specs.declared.frame.Frame.{Frame}
+use Rattle.wire.specs.declared.{frame.Frame.Frame, values.Version.Version}
+use Rattle.serving.specs.declared.{ends.FrameEnd.FrameEnd, peers.Peers.Ghosts as PeersOf}
+use Rattle.serving.specs.Connection.{Begun, FailsIn, ServesOne, Sides, sides}
+use Rattle.serving.specs.{Making.Outside, Making.Way, Making.speaking, Nodes.Fate, Sessions.outside}
 use Rattle.wire.specs.declared.frame.FrameBody.TheVariants as what
-use Rattle.wire.specs.declared.values.Version.{Version}
-use Rattle.serving.specs.declared.ends.FrameEnd.{FrameEnd}
 use Rattle.serving.specs.declared.ends.FrameFault.TheVariants as fault
 use Rattle.serving.specs.declared.permission.Permission.TheVariants as permission
-use Rattle.serving.specs.declared.peers.Peers.{Ghosts as PeersOf}
-use Rattle.serving.specs.Connection.{Begun, FailsIn, ServesOne, Sides, sides}
-use Rattle.serving.specs.Making.{Outside, Way, speaking}
-use Rattle.serving.specs.Nodes.{Fate}
-use Rattle.serving.specs.Sessions.{outside}
 
 -- the frame by which a client gives a desk a Tick
 abbrev pub tick_frame : Version → Home → Frame

@@ -1,12 +1,11 @@
 -- What a connection may ask of a desk, and what becomes of what it may not (the project's own).
 use Rattle.std.specs.Prelude.{Bool, true, false, ◌||◌, if◌then◌else◌}
 use Rattle.serving.specs.declared.permission.Permission.{Permission}
-use Rattle.serving.specs.declared.permission.Permission.TheVariants as permission
-use Rattle.serving.specs.declared.request.Request.{Request}
+use Rattle.serving.specs.declared.request.Request.{Request, TheVariants.Withheld}
 use Rattle.serving.specs.declared.request.Request.TheVariants.{Heard, Lagging, Learned, Entered}
-use Rattle.serving.specs.declared.request.Request.TheVariants.{Asked, Printed, Ticked, Stopped}
-use Rattle.serving.specs.declared.request.Request.TheVariants.{Inspected, Copied, Strange, Ignored}
-use Rattle.serving.specs.declared.request.Request.TheVariants.{Denied, Withheld}
+use Rattle.serving.specs.declared.request.Request.TheVariants.{Asked, Printed, Ticked, Inspected}
+use Rattle.serving.specs.declared.request.Request.TheVariants.{Copied, Strange, Ignored, Denied}
+use Rattle.serving.specs.declared.permission.Permission.TheVariants as permission
 
 -- nothing of the desk is changed: it tells what its log says or how it is, or is asked nothing
 abbrev pub reads : Request → Bool
@@ -18,29 +17,13 @@ reads Strange = true
 reads Ignored = true
 reads Denied = true
 reads Withheld = true
-reads (Heard m) = false
-reads (Lagging m) = false
-reads (Learned run) = false
-reads (Entered e) = false
-reads Ticked = false
-reads Stopped = false
+reads _ = false
 
 -- a client enters a command, or gives a Tick
 abbrev pub enters : Request → Bool
 enters (Entered e) = true
 enters Ticked = true
-enters (Asked id) = false
-enters (Printed event round position style) = false
-enters (Inspected differs) = false
-enters (Copied position) = false
-enters Strange = false
-enters Ignored = false
-enters Denied = false
-enters Withheld = false
-enters (Heard m) = false
-enters (Lagging m) = false
-enters (Learned run) = false
-enters Stopped = false
+enters _ = false
 
 abbrev pub admits : Permission → Request → Bool
 admits permission.All r = true
@@ -52,17 +35,7 @@ abbrev pub turned_away : Request → Request
 turned_away (Heard m) = Ignored
 turned_away (Lagging m) = Ignored
 turned_away (Learned run) = Ignored
-turned_away (Entered e) = Denied
-turned_away (Asked id) = Denied
-turned_away (Printed event round position style) = Denied
-turned_away (Inspected differs) = Denied
-turned_away (Copied position) = Denied
-turned_away Ticked = Denied
-turned_away Stopped = Denied
-turned_away Strange = Denied
-turned_away Ignored = Denied
-turned_away Denied = Denied
-turned_away Withheld = Denied
+turned_away _ = Denied
 
 abbrev pub permitted : Permission → Request → Request
 permitted may r = if admits may r then r else turned_away r

@@ -1,33 +1,26 @@
 -- Serving: what is done for a frame, and for one frame after the other (the project's own).
-use Rattle.std.specs.Prelude.{ℕ, ◌+◌, ◌&&◌, not, nat_lt, Bool, if◌then◌else◌, List}
-use Rattle.std.specs.Prelude.{[], ◌∷◌, ◌++◌, length, map, Option, None, Some, Result, Ok, Err}
-use Rattle.acceptor.specs.declared.message.Message.{Message}
-use Rattle.acceptor.specs.declared.message.Body.{Body}
-use Rattle.acceptor.specs.declared.message.Body.TheVariants as body
+use Rattle.std.specs.Prelude.{ℕ, ◌+◌, ◌&&◌, not, nat_lt, Bool, if◌then◌else◌, List, [], ◌∷◌, ◌++◌}
+use Rattle.std.specs.Prelude.{length, map, Option, None, Some, Result, Ok, Err}
+use Rattle.acceptor.specs.declared.{message.Message.Message, message.Body.Body, entry.Entry.Entry}
 use Rattle.learner.specs.declared.event.DeskEvent.{DeskEvent}
 use Rattle.learner.specs.declared.event.DeskEvent.TheVariants.{Submit, Start, Tick, Deliver}
-use Rattle.wire.specs.declared.values.Version.{Version}
-use Rattle.wire.specs.declared.frame.Frame.{Frame}
-use Rattle.wire.specs.declared.values.ClientRefusal.TheVariants as refusal
-use Rattle.acceptor.specs.declared.entry.Entry.{Entry}
-use Rattle.wire.specs.declared.frame.FrameBody.{FrameBody}
-use Rattle.wire.specs.declared.frame.FrameBody.TheVariants as what
-use Rattle.wire.specs.Spelling.{spelling}
+use Rattle.wire.specs.{declared.values.Version.Version, Spelling.spelling}
+use Rattle.wire.specs.declared.frame.{Frame.Frame, FrameBody.FrameBody}
 use Rattle.store.specs.declared.home.Home.{Home}
 use Rattle.replica.specs.declared.roles.fault.NodeFault.{NodeFault}
-use Rattle.replica.specs.declared.roles.fault.NodeFault.TheVariants as fault
-use Rattle.serving.specs.Adding.{Push}
+use Rattle.serving.specs.{Adding.Push, Answering.copied, declared.request.DecidedRun.DecidedRun}
 use Rattle.answers.specs.Seen.{Seen}
 use Rattle.serving.specs.Nodes.{Fate, Goes, Reply, reply}
 use Rattle.serving.specs.Answering.{answer_of, answer_first, state, told_what, printed, standing}
-use Rattle.serving.specs.Answering.{copied}
 use Rattle.serving.specs.Telling.{run_of, run_pushed}
-use Rattle.serving.specs.declared.request.DecidedRun.{DecidedRun}
-use Rattle.serving.specs.declared.request.Request.{Request}
+use Rattle.serving.specs.declared.request.Request.{Request, TheVariants.Withheld}
 use Rattle.serving.specs.declared.request.Request.TheVariants.{Heard, Lagging, Learned, Entered}
 use Rattle.serving.specs.declared.request.Request.TheVariants.{Asked, Printed, Ticked, Stopped}
-use Rattle.serving.specs.declared.request.Request.TheVariants.{Inspected, Copied, Strange, Ignored}
-use Rattle.serving.specs.declared.request.Request.TheVariants.{Denied, Withheld}
+use Rattle.serving.specs.declared.request.Request.TheVariants.{Inspected, Copied, Strange, Denied}
+use Rattle.acceptor.specs.declared.message.Body.TheVariants as body
+use Rattle.wire.specs.declared.values.ClientRefusal.TheVariants as refusal
+use Rattle.wire.specs.declared.frame.FrameBody.TheVariants as what
+use Rattle.replica.specs.declared.roles.fault.NodeFault.TheVariants as fault
 
 -- ---- messages as frames
 
@@ -78,10 +71,7 @@ later_fates (f ∷ fs) = fs
 abbrev pub waiting_after : List Message → Result (List Message) NodeFault → List Message
 waiting_after ms (Ok more) = ms ++ more
 waiting_after ms (Err fault.Down) = []
-waiting_after ms (Err fault.Busy) = ms
-waiting_after ms (Err fault.LogFull) = ms
-waiting_after ms (Err fault.BallotsSpent) = ms
-waiting_after ms (Err fault.NoMemory) = ms
+waiting_after ms _ = ms
 
 -- the node is called
 abbrev pub answered : Service → DeskEvent → Reply → Service
@@ -217,9 +207,6 @@ served home x fates _ = begun x fates
 -- the answer, where the frame has one: it is that of the first call; at Down, in whichever call, it
 -- is Refused
 abbrev pub answer : Home → Seen → List Fate → Request → Option FrameBody
-answer home x fates (Heard m) = None
-answer home x fates (Lagging m) = None
-answer home x fates (Learned run) = None
 answer home x fates (Entered e) =
     Some (answer_first (what.Taken e.id)
     (answer_of (reply_to home (Submit e) (begun x fates)).result)
@@ -234,6 +221,6 @@ answer home x fates Ticked =
     (answer_of (reply_to home Tick (begun x fates)).result) (served home x fates Ticked).seen)
 answer home x fates Stopped = Some what.Fine
 answer home x fates Strange = Some (what.Refused refusal.Foreign)
-answer home x fates Ignored = None
 answer home x fates Denied = Some (what.Refused refusal.NotAllowed)
 answer home x fates Withheld = Some (what.Refused refusal.HallDiffers)
+answer home x fates _ = None

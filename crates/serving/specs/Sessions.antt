@@ -1,11 +1,9 @@
 -- What a contract sees of a desk that serves (the project's own).
-use Rattle.std.specs.Prelude.{ℕ, List, Option}
-use Rattle.std.specs.declared.io.Write.{Ghosts as WriteOf}
+use Rattle.std.specs.{Prelude.ℕ, Prelude.List, Prelude.Option, declared.io.Write.Ghosts as WriteOf}
 use Rattle.answers.specs.declared.desk.Desk.{Ghosts as DeskOf}
 use Rattle.wire.specs.declared.values.Version.{Version}
 use Rattle.serving.specs.declared.ends.ServingOutcome.{ServingOutcome}
-use Rattle.serving.specs.declared.permission.Permission.{Permission}
-use Rattle.serving.specs.declared.peers.Peers.{Ghosts as PeersOf}
+use Rattle.serving.specs.declared.{permission.Permission.Permission, peers.Peers.Ghosts as PeersOf}
 use Rattle.serving.specs.declared.source.Source.{Ghosts as SourceOf}
 use Rattle.serving.specs.Connection.{Begun, IsConnection, Reads, Sides, sides}
 use Rattle.serving.specs.Making.{Outside, outside_of, speaking}
@@ -49,7 +47,5 @@ abbrev pub ServesReader : {V U X : Type 0} → DeskOf V → PeersOf U → WriteO
     → Permission → ServingOutcome → Line V U X → Line V U X → Option (List ℕ) → Type 0
 ServesReader d p w version may result a b given =
     (left : Option (List ℕ)) × (reads : Reads) × (bytes : List ℕ) × (begun : List Begun)
-    × (rest : List ℕ)
-    × IsConnection may result (d.home_of a.node) (sides_of d p w version a)
-    (sides_of d p w version b)
-    bytes begun rest given left reads
+    × (rest : List ℕ) × IsConnection may result (d.home_of a.node) (sides_of d p w version a)
+    (sides_of d p w version b) bytes begun rest given left reads

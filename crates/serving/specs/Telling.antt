@@ -1,36 +1,21 @@
 -- The run of entries that a desk is sent which lacks them (the project's own).
 use Rattle.std.specs.Prelude.{ℕ, ◌+◌, ◌==◌, ◌||◌, nat_lt, if◌then◌else◌, List, [], ◌∷◌, length}
 use Rattle.std.specs.Prelude.{take, Option, None, Some}
-use Rattle.acceptor.specs.declared.entry.Entry.{Entry}
-use Rattle.acceptor.specs.declared.message.Body.{Body}
+use Rattle.acceptor.specs.declared.{entry.Entry.Entry, message.Body.Body, message.Message.Message}
+use Rattle.wire.specs.{declared.frame.Frame.Frame, Spelling.spelling}
+use Rattle.wire.specs.declared.values.Version.{Version, TheVariants.One}
+use Rattle.serving.specs.{Adding.Push, declared.request.DecidedRun.DecidedRun}
 use Rattle.acceptor.specs.declared.message.Body.TheVariants as body
-use Rattle.acceptor.specs.declared.message.Message.{Message}
-use Rattle.wire.specs.declared.frame.Frame.{Frame}
 use Rattle.wire.specs.declared.frame.FrameBody.TheVariants as what
-use Rattle.wire.specs.declared.values.Version.{Version}
-use Rattle.wire.specs.declared.values.Version.TheVariants.{One, Two, Three, Four, Five}
-use Rattle.wire.specs.Spelling.{spelling}
-use Rattle.serving.specs.Adding.{Push}
-use Rattle.serving.specs.declared.request.DecidedRun.{DecidedRun}
 
 -- what a message says was decided: where, and what
 abbrev pub position_told : Body → Option ℕ
-position_told (body.Prepare b pos) = None
-position_told (body.Promise b pos vote) = None
-position_told (body.Accept b pos e) = None
-position_told (body.Accepted b pos) = None
-position_told (body.Nack b pos promised) = None
-position_told (body.Behind len) = None
 position_told (body.Decided pos e) = Some pos
+position_told _ = None
 
 abbrev pub decided_at : ℕ → Body → Option Entry
-decided_at pos (body.Prepare b p) = None
-decided_at pos (body.Promise b p vote) = None
-decided_at pos (body.Accept b p e) = None
-decided_at pos (body.Accepted b p) = None
-decided_at pos (body.Nack b p promised) = None
-decided_at pos (body.Behind len) = None
 decided_at pos (body.Decided p e) = if p == pos then Some e else None
+decided_at pos _ = None
 
 -- the entry that a message says is at a position, where it says so to this desk
 abbrev pub entry_told : ℕ → ℕ → Message → Option Entry
@@ -65,10 +50,7 @@ run_of d (m ∷ ms) =
 -- what a frame of a version says of the entries: the first, or all
 abbrev pub entries_said : Version → List Entry → List Entry
 entries_said One es = take 1 es
-entries_said Two es = es
-entries_said Three es = es
-entries_said Four es = es
-entries_said Five es = es
+entries_said _ es = es
 
 abbrev pub run_frame : Version → ℕ → DecidedRun → Frame
 run_frame version hall run =

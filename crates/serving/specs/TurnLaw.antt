@@ -1,22 +1,18 @@
 -- The turns of a connection, however its pieces are cut and its answers are taken (the project's
 -- own).
 use Rattle.std.specs.Prelude.{◌≡◌, ◌⊎◌, ◌≤◌, ◌<◌, ℕ, List, [], ◌∷◌, ◌++◌, length, Option, None}
-use Rattle.std.specs.Prelude.{Some}
-use Rattle.std.specs.List.{flat_map}
-use Rattle.answers.specs.declared.desk.Desk.{Ghosts as DeskOf}
-use Rattle.answers.specs.Seen.{Seen}
-use Rattle.wire.specs.declared.values.Version.{Version}
-use Rattle.wire.specs.Spelling.{spelling}
+use Rattle.std.specs.{Prelude.Some, List.flat_map}
+use Rattle.answers.specs.{declared.desk.Desk.Ghosts as DeskOf, Seen.Seen}
+use Rattle.wire.specs.{declared.values.Version.Version, Spelling.spelling}
 use Rattle.wire.specs.Stream.{Breaks, front, IsOfStream}
 use Rattle.store.specs.declared.home.Home.{Home}
-use Rattle.serving.specs.declared.ends.FrameEnd.TheVariants as close
-use Rattle.serving.specs.declared.ends.ConnectionEnd.{ConnectionEnd}
-use Rattle.serving.specs.declared.ends.ConnectionEnd.TheVariants as end
-use Rattle.serving.specs.declared.ends.FrameFault.TheVariants as fault
+use Rattle.serving.specs.{declared.ends.ConnectionEnd.ConnectionEnd, Turns.new_talk}
 use Rattle.serving.specs.Connection.{Begun, AreBegun, Sides, sides, Serves, Closes, Fails}
 use Rattle.serving.specs.Making.{Way, Outside, speaking}
 use Rattle.serving.specs.Turns.{Talk, BeginsNext, LeavesAt, Receives, Rests, WantsRead, after_sent}
-use Rattle.serving.specs.Turns.{new_talk}
+use Rattle.serving.specs.declared.ends.FrameEnd.TheVariants as close
+use Rattle.serving.specs.declared.ends.ConnectionEnd.TheVariants as end
+use Rattle.serving.specs.declared.ends.FrameFault.TheVariants as fault
 
 -- a turn: a piece came, a frame was begun, none was, or these bytes of what was pending were taken
 pub data Turn : Type 0 where
@@ -60,15 +56,11 @@ Follow {V} {way} a (t ∷ ts) b = (m : Place way) × Turns t a m × Follow m ts 
 -- the bytes that came, and those that were taken
 abbrev pub came_in : Turn → List ℕ
 came_in (Came piece) = piece
-came_in (Began one) = []
-came_in Rested = []
-came_in (Took bytes) = []
+came_in _ = []
 
 abbrev pub taken_in : Turn → List ℕ
-taken_in (Came piece) = []
-taken_in (Began one) = []
-taken_in Rested = []
 taken_in (Took bytes) = bytes
+taken_in _ = []
 
 abbrev pub received : List Turn → List ℕ
 received [] = []
@@ -80,10 +72,8 @@ handed_out (t ∷ ts) = taken_in t ++ handed_out ts
 
 -- the frames begun, in order
 abbrev pub begun_at : Turn → List Begun
-begun_at (Came piece) = []
 begun_at (Began one) = one ∷ []
-begun_at Rested = []
-begun_at (Took bytes) = []
+begun_at _ = []
 
 abbrev pub begun_in : List Turn → List Begun
 begun_in [] = []
@@ -92,8 +82,7 @@ begun_in (t ∷ ts) = begun_at t ++ begun_in ts
 -- How the frames begun leave a connection, with this after the frames: open, or ended by its cause.
 -- Of the ends of a connection these come by turns.
 abbrev pub Stands : {V : Type 0} → {way : Way V} → Option ConnectionEnd → Home → Sides way
-    → Sides way
-    → List Begun → List ℕ → ℕ → Type 0
+    → Sides way → List Begun → List ℕ → ℕ → Type 0
 Stands None home a b begun rest count = Serves home a b begun × (count < 64)
 Stands (Some end.Stopped) home a b begun rest count = Closes close.Stopped home a b begun
 Stands (Some end.Down) home a b begun rest count = Closes close.Down home a b begun
@@ -102,10 +91,7 @@ Stands (Some (end.Fault e)) home a b begun rest count =
     Serves home a b begun × (front rest ≡ Breaks e) × IsOfStream e
 Stands (Some end.NoMemory) home a b begun rest count =
     Serves home a b begun ⊎ Fails fault.NoMemory home a b begun
-Stands (Some end.End) home a b begun rest count = ⊥
-Stands (Some end.Reads) home a b begun rest count = ⊥
-Stands (Some end.Read) home a b begun rest count = ⊥
-Stands (Some end.Write) home a b begun rest count = ⊥
+Stands _ home a b begun rest count = ⊥
 
 -- The bytes that came are the frames begun, those that wait, and a rest. What was taken of answers,
 -- and then what is pending, is what the frames begun come to, in order. So are the calls and the
@@ -125,6 +111,5 @@ abbrev pub TurnsServe : {V : Type 0} → DeskOf V → Type 0
 TurnsServe d =
     (home : Home) (wire : Version) (turns : List Turn)
     (a b : Place (speaking d.handles d.settles wire))
-    → a.talk ≡ new_talk home wire → Follow a turns b
-    → (begun : List Begun) × (rest : List ℕ)
+    → a.talk ≡ new_talk home wire → Follow a turns b → (begun : List Begun) × (rest : List ℕ)
     × AreServed home a b (received turns) (handed_out turns) begun rest × (begun ≡ begun_in turns)

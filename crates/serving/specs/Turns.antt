@@ -3,21 +3,17 @@
 use Rattle.std.specs.Prelude.{◌≡◌, ◌⊎◌, ◌≤◌, ◌<◌, ℕ, ◌+◌, Bool, true, false, List, [], ◌∷◌, ◌++◌}
 use Rattle.std.specs.Prelude.{drop, Option, None, Some}
 use Rattle.answers.specs.declared.desk.Desk.{Ghosts as DeskOf}
-use Rattle.wire.specs.declared.fault.WireFault.{WireFault}
-use Rattle.wire.specs.declared.frame.Frame.{Frame}
-use Rattle.wire.specs.declared.standing.Difference.{Difference}
-use Rattle.wire.specs.declared.values.Version.{Version}
+use Rattle.wire.specs.declared.{fault.WireFault.WireFault, frame.Frame.Frame}
+use Rattle.wire.specs.declared.{standing.Difference.Difference, values.Version.Version}
 use Rattle.wire.specs.Stream.{Breaks, front, IsBegun, IsKept, IsOfStream, Feeds, Reader, holding}
 use Rattle.store.specs.declared.home.Home.{Home}
-use Rattle.serving.specs.declared.ends.FrameEnd.TheVariants as close
-use Rattle.serving.specs.declared.ends.ConnectionEnd.{ConnectionEnd}
-use Rattle.serving.specs.declared.ends.ConnectionEnd.TheVariants as end
-use Rattle.serving.specs.declared.ends.FrameFault.TheVariants as fault
-use Rattle.serving.specs.declared.permission.Permission.{Permission}
-use Rattle.serving.specs.declared.peers.Peers.{Ghosts as PeersOf}
+use Rattle.serving.specs.declared.{ends.ConnectionEnd.ConnectionEnd, peers.Peers.Ghosts as PeersOf}
+use Rattle.serving.specs.{declared.permission.Permission.Permission, Sessions.outside}
 use Rattle.serving.specs.Connection.{Begun, Sides, sides, ServesOne, FailsIn}
 use Rattle.serving.specs.Making.{Way, speaking}
-use Rattle.serving.specs.Sessions.{outside}
+use Rattle.serving.specs.declared.ends.FrameEnd.TheVariants as close
+use Rattle.serving.specs.declared.ends.ConnectionEnd.TheVariants as end
+use Rattle.serving.specs.declared.ends.FrameFault.TheVariants as fault
 
 -- what a connection has between two turns
 pub record Talk : Type 0 where
@@ -75,13 +71,7 @@ ReadsTo (Some (end.Fault e)) piece old new =
     (front (old.stream.held ++ piece) ≡ Breaks e) × IsOfStream e × (new.waiting ≡ [])
 ReadsTo (Some end.NoMemory) piece old new =
     IsBegun (front (old.stream.held ++ piece)) × (new.waiting ≡ [])
-ReadsTo (Some end.End) piece old new = ⊥
-ReadsTo (Some end.Stopped) piece old new = ⊥
-ReadsTo (Some end.Frames) piece old new = ⊥
-ReadsTo (Some end.Reads) piece old new = ⊥
-ReadsTo (Some end.Read) piece old new = ⊥
-ReadsTo (Some end.Write) piece old new = ⊥
-ReadsTo (Some end.Down) piece old new = ⊥
+ReadsTo _ piece old new = ⊥
 
 abbrev pub Receives : List ℕ → Talk → Talk → Type 0
 Receives piece old new = OnlyReads old new × ReadsTo new.end piece old new
@@ -116,18 +106,13 @@ pub record BeginsNext (old new : Talk) (frame : Frame) : Type 0 where
 -- how the frame leaves the connection, after which this many were begun: open, or ended by the
 -- frame, or as the 64th, or for want of memory
 abbrev pub LeavesAt : {V : Type 0} → {way : Way V} → Option ConnectionEnd → Home → Sides way
-    → Sides way
-    → Begun → ℕ → Type 0
+    → Sides way → Begun → ℕ → Type 0
 LeavesAt None home a b one count = ServesOne home a b one None × (count < 64)
 LeavesAt (Some end.Stopped) home a b one count = ServesOne home a b one (Some close.Stopped)
 LeavesAt (Some end.Down) home a b one count = ServesOne home a b one (Some close.Down)
 LeavesAt (Some end.Frames) home a b one count = ServesOne home a b one None × (count ≡ 64)
 LeavesAt (Some end.NoMemory) home a b one count = FailsIn fault.NoMemory home a b one
-LeavesAt (Some end.End) home a b one count = ⊥
-LeavesAt (Some end.Reads) home a b one count = ⊥
-LeavesAt (Some (end.Fault e)) home a b one count = ⊥
-LeavesAt (Some end.Read) home a b one count = ⊥
-LeavesAt (Some end.Write) home a b one count = ⊥
+LeavesAt _ home a b one count = ⊥
 
 -- the end that a fault of the stream is, where one is kept
 abbrev pub broken_by : Option WireFault → Option ConnectionEnd

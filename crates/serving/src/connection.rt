@@ -1,15 +1,12 @@
 //! A connection that is served by turns, and neither reads nor writes of itself.
 
 ghost use Rattle.std.specs.Prelude.{◌≡◌, ◌≢◌, ◌≤◌, ◌↔◌, [], length, IfOk, IfSome, OnOk, OnErr};
-ghost use Rattle.std.specs.Prelude.{IsTrue, option_map};
+ghost use Rattle.std.specs.{Prelude.IsTrue, Prelude.option_map, Io.KnownBytes.Appends};
 ghost use Rattle.lines.specs.Bytes.{AppendsPart};
-ghost use Rattle.std.specs.Io.KnownBytes.{Appends};
 ghost use Rattle.serving.specs.Kinds.{dear_next, is_dear, is_message, message_next};
 ghost use Rattle.wire.specs.Ranges.{IsDifference, IsFrame};
-ghost use Rattle.serving.specs.Differing.{first_frame};
+ghost use Rattle.serving.specs.{Differing.first_frame, Turns.new_talk, model.Turning.end_after};
 ghost use Rattle.serving.specs.Turns.{Advances, IsFree, Receives, WantsRead, after_sent, moment};
-ghost use Rattle.serving.specs.Turns.{new_talk};
-ghost use Rattle.serving.specs.model.Turning.{end_after};
 
 use crate::ends::{ConnectionEnd, FrameEnd, ServingOutcome};
 use crate::peers::Peers;

@@ -1,8 +1,7 @@
 //! Entries of a desk's log, as it answers a client that asks for them.
 
 ghost use Rattle.std.specs.Prelude.{◌≡◌, ◌≤◌, IfOk};
-ghost use Rattle.wire.specs.Numbers.{IsFromThree};
-ghost use Rattle.wire.specs.Ranges.{IsLogLength};
+ghost use Rattle.wire.specs.{Numbers.IsFromThree, Ranges.IsLogLength};
 ghost use Rattle.wire.specs.declared.values.Version.{Version};
 ghost use Rattle.serving.specs.Answering.{IsAnswerIn, copied, entries_from};
 ghost use Rattle.serving.specs.Nodes.{Fate};

@@ -1,9 +1,8 @@
 //! An event, its messages, and Start where the log grew.
 
 ghost use Rattle.std.specs.Prelude.{◌≡◌, IfOk, OnOk, OnErr};
-ghost use Rattle.serving.specs.model.Sessions.{Meets, MeetsPart, Starts, StartsPart, TakesIn};
-ghost use Rattle.serving.specs.model.Sessions.{TakesPart, desks};
-ghost use Rattle.serving.specs.Serving.{grew};
+ghost use Rattle.serving.specs.model.Sessions.{Comes, ComesPart, Meets, MeetsPart, TakesIn, desks};
+ghost use Rattle.serving.specs.Serving.{grew, start_if_grown, take};
 
 use crate::calls::{NodeAnswer, call};
 use crate::peers::Peers;
@@ -50,10 +49,10 @@ impl Session {
         before: u32,
     ) -> Result<(), NoMemory>
         requires home { D.home_of node.old ≡ self.home }
-        ensures ok { OnOk result (Starts D.Desk P.Peers self before
+        ensures ok { OnOk result (Comes D.Desk P.Peers self (start_if_grown self.home before)
             (desks node.old peers.old) (desks node.new peers.new)) }
-        ensures err { OnErr result (StartsPart D.Desk P.Peers self before
-            (desks node.old peers.old) (desks node.new peers.new)) }
+        ensures err { OnErr result (ComesPart D.Desk P.Peers self
+            (start_if_grown self.home before) (desks node.old peers.old) (desks node.new peers.new)) }
         ensures home { D.home_of node.new ≡ D.home_of node.old }
     {
         if grew(before, node) {
@@ -73,7 +72,7 @@ impl Session {
         requires home { D.home_of node.old ≡ self.home }
         ensures ok { IfOk result (TakesIn D.Desk P.Peers self event
             (desks node.old peers.old) (desks node.new peers.new)) }
-        ensures err { OnErr result (TakesPart D.Desk P.Peers self event
+        ensures err { OnErr result (ComesPart D.Desk P.Peers self (take self.home event)
             (desks node.old peers.old) (desks node.new peers.new)) }
         ensures home { D.home_of node.new ≡ D.home_of node.old }
     {

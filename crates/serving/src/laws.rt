@@ -1,7 +1,6 @@
 //! What follows of a connection's turns, in any order.
 
-ghost use Rattle.serving.specs.OutsideLaw.{OutsideCallsNothing};
-ghost use Rattle.serving.specs.TurnLaw.{TurnsServe};
+ghost use Rattle.serving.specs.{OutsideLaw.OutsideCallsNothing, TurnLaw.TurnsServe};
 
 use answers::Desk;
 

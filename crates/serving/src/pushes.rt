@@ -3,9 +3,8 @@
 ghost use Rattle.std.specs.Prelude.{◌≡◌, ◌≤◌, [], ◌∷◌, IfOk, OnOk, OnErr};
 ghost use Rattle.learner.specs.Ranges.{IsInRange, AreInRange};
 ghost use Rattle.wire.specs.Ranges.{IsEntry, IsFrame};
-ghost use Rattle.serving.specs.model.Framing.{IsTyped, ReportIsTyped};
-ghost use Rattle.serving.specs.model.Sessions.{Pushes, PushesSome};
-ghost use Rattle.serving.specs.Serving.{what_of, framed};
+ghost use Rattle.serving.specs.{model.Framing.IsTyped, model.Framing.ReportIsTyped, Serving.framed};
+ghost use Rattle.serving.specs.{model.Sessions.Pushes, model.Sessions.PushesSome, Serving.what_of};
 
 use crate::peers::Peers;
 use crate::session::Session;

@@ -5,8 +5,7 @@ ghost use Rattle.std.specs.Prelude.{◌≡◌, ◌<◌, ◌≢◌, None, Some, O
 ghost use Rattle.wire.specs.Ranges.{IsId};
 ghost use Rattle.serving.specs.Answering.{IsAnswer, IsAnswerIn, answer_first, refusal_of, state_of};
 ghost use Rattle.serving.specs.Answering.{state, told_what, printed, said_in};
-ghost use Rattle.serving.specs.Connection.{answer_bytes, framed_answer};
-ghost use Rattle.serving.specs.Nodes.{Fate};
+ghost use Rattle.serving.specs.{Connection.answer_bytes, Connection.framed_answer, Nodes.Fate};
 
 use crate::calls::NodeAnswer;
 use crate::session::Session;

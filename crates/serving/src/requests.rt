@@ -1,14 +1,12 @@
 //! A request: its calls, its pushes and its answer.
 
-ghost use Rattle.std.specs.Prelude.{◌≡◌, [], IfOk, OnOk, OnErr, IfSome};
+ghost use Rattle.std.specs.Prelude.{◌≡◌, [], None, Some, IfOk, OnOk, OnErr, IfSome};
 ghost use Rattle.learner.specs.Ranges.{AreInRange};
-ghost use Rattle.wire.specs.Ranges.{IsEntry};
-ghost use Rattle.wire.specs.declared.values.Version.{Version};
-ghost use Rattle.serving.specs.Answering.{IsAnswer, IsAnswerIn};
-ghost use Rattle.serving.specs.Asking.{AsksInRange, IsAskedIn};
-ghost use Rattle.serving.specs.model.Sessions.{Enters, EntersPart, Hears, HearsPart, Serves};
-ghost use Rattle.serving.specs.model.Sessions.{ServesPart, StartsNext, StartsNextPart, Ticks};
-ghost use Rattle.serving.specs.model.Sessions.{TicksPart, desks};
+ghost use Rattle.wire.specs.{Ranges.IsEntry, declared.values.Version.Version};
+ghost use Rattle.serving.specs.{Answering.IsAnswer, Answering.IsAnswerIn, Asking.AsksInRange};
+ghost use Rattle.serving.specs.{Asking.IsAskedIn, model.Sessions.Serves, model.Sessions.desks};
+ghost use Rattle.serving.specs.declared.request.Request.TheVariants.{Heard, Entered, Ticked};
+ghost use Rattle.serving.specs.model.Sessions.{ServesPart, StartsNext, StartsNextPart};
 
 use crate::calls::{NodeAnswer, call};
 use crate::copies::copied;
@@ -34,9 +32,9 @@ impl Session {
         message: Message,
     ) -> Result<(), NoMemory>
         requires home { D.home_of node.old ≡ self.home }
-        ensures ok { OnOk result (Hears D.Desk P.Peers self message
-            (desks node.old peers.old) (desks node.new peers.new)) }
-        ensures err { OnErr result (HearsPart D.Desk P.Peers self message
+        ensures ok { OnOk result (Serves D.Desk P.Peers self (Heard message)
+            (desks node.old peers.old) (desks node.new peers.new) None) }
+        ensures err { OnErr result (ServesPart D.Desk P.Peers self (Heard message)
             (desks node.old peers.old) (desks node.new peers.new)) }
         ensures home { D.home_of node.new ≡ D.home_of node.old }
     {
@@ -47,9 +45,9 @@ impl Session {
     /// The desk is given a Tick, and this is what a client is answered that gave it.
     pub fn tick<D: Desk, P: Peers>(self, node: &mut D, peers: &mut P) -> Result<FrameBody, NoMemory>
         requires home { D.home_of node.old ≡ self.home }
-        ensures ok { IfOk result (Ticks D.Desk P.Peers self
-            (desks node.old peers.old) (desks node.new peers.new)) }
-        ensures err { OnErr result (TicksPart D.Desk P.Peers self
+        ensures ok { IfOk result (λ answer. Serves D.Desk P.Peers self Ticked
+            (desks node.old peers.old) (desks node.new peers.new) (Some answer)) }
+        ensures err { OnErr result (ServesPart D.Desk P.Peers self Ticked
             (desks node.old peers.old) (desks node.new peers.new)) }
         ensures in_range { IfOk result IsAnswer }
         ensures home { D.home_of node.new ≡ D.home_of node.old }
@@ -88,9 +86,9 @@ impl Session {
     ) -> Result<FrameBody, NoMemory>
         requires home { D.home_of node.old ≡ self.home }
         requires in_range { IsEntry entry }
-        ensures ok { IfOk result (Enters D.Desk P.Peers self entry
-            (desks node.old peers.old) (desks node.new peers.new)) }
-        ensures err { OnErr result (EntersPart D.Desk P.Peers self entry
+        ensures ok { IfOk result (λ answer. Serves D.Desk P.Peers self (Entered entry)
+            (desks node.old peers.old) (desks node.new peers.new) (Some answer)) }
+        ensures err { OnErr result (ServesPart D.Desk P.Peers self (Entered entry)
             (desks node.old peers.old) (desks node.new peers.new)) }
         ensures in_range { IfOk result IsAnswer }
         ensures home { D.home_of node.new ≡ D.home_of node.old }

@@ -1,14 +1,14 @@
 //! Runs of entries: what a desk says was decided, and what a desk is sent that lacks entries.
 
 ghost use Rattle.std.specs.Prelude.{◌≡◌, ◌≤◌, ◌+◌, ◌∷◌, [], option_map, IfOk, IfSome, OnOk, OnErr};
-ghost use Rattle.std.specs.Prelude.{length};
+ghost use Rattle.std.specs.Prelude.{None, length};
 ghost use Rattle.learner.specs.Ranges.{AreInRange};
-ghost use Rattle.serving.specs.Adding.{Hands};
+ghost use Rattle.serving.specs.{Adding.Hands, model.Sessions.TellsPart, model.Sessions.desks};
 ghost use Rattle.serving.specs.Telling.{entries_told, entry_told, entries_said, run_of, run_pushed};
 ghost use Rattle.serving.specs.model.Gathering.{Gathers, IsRun};
-ghost use Rattle.serving.specs.model.Sessions.{Delivers, DeliversPart, FailsToLearn, FailsToTell};
-ghost use Rattle.serving.specs.model.Sessions.{Learns, LearnsAll, LearnsPart, Tells, TellsAll};
-ghost use Rattle.serving.specs.model.Sessions.{TellsPart, desks};
+ghost use Rattle.serving.specs.declared.request.Request.TheVariants.{Lagging, Learned};
+ghost use Rattle.serving.specs.model.Sessions.{Delivers, DeliversPart, LearnsAll, LearnsPart};
+ghost use Rattle.serving.specs.model.Sessions.{Serves, ServesPart, TellsAll};
 
 use crate::calls::call;
 use crate::peers::Peers;
@@ -190,9 +190,9 @@ impl Session {
     ) -> Result<(), NoMemory>
         requires most { run.pos + length run.entries ≤ 65536 }
         requires home { D.home_of node.old ≡ self.home }
-        ensures ok { OnOk result (Learns D.Desk P.Peers self run
-            (desks node.old peers.old) (desks node.new peers.new)) }
-        ensures err { OnErr result (FailsToLearn D.Desk P.Peers self run
+        ensures ok { OnOk result (Serves D.Desk P.Peers self (Learned run)
+            (desks node.old peers.old) (desks node.new peers.new) None) }
+        ensures err { OnErr result (ServesPart D.Desk P.Peers self (Learned run)
             (desks node.old peers.old) (desks node.new peers.new)) }
         ensures home { D.home_of node.new ≡ D.home_of node.old }
     {
@@ -264,9 +264,9 @@ impl Session {
         message: Message,
     ) -> Result<(), NoMemory>
         requires home { D.home_of node.old ≡ self.home }
-        ensures ok { OnOk result (Tells D.Desk P.Peers self message
-            (desks node.old peers.old) (desks node.new peers.new)) }
-        ensures err { OnErr result (FailsToTell D.Desk P.Peers self message
+        ensures ok { OnOk result (Serves D.Desk P.Peers self (Lagging message)
+            (desks node.old peers.old) (desks node.new peers.new) None) }
+        ensures err { OnErr result (ServesPart D.Desk P.Peers self (Lagging message)
             (desks node.old peers.old) (desks node.new peers.new)) }
         ensures home { D.home_of node.new ≡ D.home_of node.old }
     {

@@ -2,9 +2,8 @@
 
 ghost use Rattle.std.specs.Prelude.{◌≡◌, ◌≤◌};
 ghost use Rattle.std.specs.List.{AllByRecursion};
-ghost use Rattle.wire.specs.Numbers.{IsFromThree};
+ghost use Rattle.wire.specs.{Numbers.IsFromThree, declared.values.Version.Version};
 ghost use Rattle.wire.specs.Ranges.{AreLengths, IsDifference};
-ghost use Rattle.wire.specs.declared.values.Version.{Version};
 ghost use Rattle.wire.specs.declared.frame.FrameBody.TheVariants.{Standing as StandingOf};
 ghost use Rattle.serving.specs.Answering.{IsAnswerIn, lengths_of_hall, promised_of, role_of};
 ghost use Rattle.serving.specs.Answering.{standing};

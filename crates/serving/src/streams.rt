@@ -2,11 +2,9 @@
 
 ghost use Rattle.std.specs.Prelude.{◌≡◌, ◌<◌};
 ghost use Rattle.wire.specs.Laws.{IsVersion};
-ghost use Rattle.serving.specs.Making.{spoken};
+ghost use Rattle.serving.specs.{Making.spoken, Turns.IsFree, Turns.WantsRead, model.Turning.GoesOn};
 ghost use Rattle.serving.specs.Sessions.{ServesReader, ServesSource, line};
-ghost use Rattle.serving.specs.Turns.{IsFree, WantsRead};
 ghost use Rattle.serving.specs.model.Sessions.{ServesPiece, ServesWaiting};
-ghost use Rattle.serving.specs.model.Turning.{GoesOn};
 
 use crate::connection::Connection;
 use crate::ends::{ConnectionEnd, ServingOutcome};

@@ -1,81 +1,32 @@
 -- Lists of commands that have the same sheets.
 use Rattle.std.proofs.Common.{◌≡◌, ◌∙◌, ℕ, suc, true, List, [], ◌∷◌, ◌++◌, Option, option_map}
 use Rattle.std.proofs.Common.{unwrap_or, refl, flat_map, None, Some, sym, ap}
+use Rattle.std.proofs.Math.Path.{fun_ext}
 use Rattle.csv.specs.Writing.{row_text, default_writer}
-use Rattle.formats.specs.declared.events.Event.{Event}
+use Rattle.formats.specs.declared.{events.Event.Event, styles.SheetStyle.SheetStyle as Style}
 use Rattle.formats.specs.Events.{unit_of, attempts_of}
-use Rattle.texts.specs.declared.command.Command.{Command}
-use Rattle.texts.specs.declared.command.Settings.{Settings}
+use Rattle.texts.specs.declared.command.{Command.Command, Settings.Settings}
 use Rattle.rounds.specs.Tables.{Table, entrant, standings}
-use Rattle.commands.specs.Accepted.{Opened, name_of, opened, plus_command}
-use Rattle.commands.specs.Accepted.{round_in, round_of, seen_by, seen_of}
+use Rattle.commands.specs.Accepted.{Opened, name_of, opened, plus_command, round_in, round_of}
+use Rattle.commands.specs.Accepted.{seen_by, seen_of}
 use Rattle.commands.proofs.OneMore.{keeps_open, opened_kept}
-use Rattle.formats.specs.declared.styles.SheetStyle.{SheetStyle as Style}
+use Rattle.sheets.specs.Sheet.{header, first_line, second_line, record_of, is_marked, sheet}
+use Rattle.sheets.specs.Sheet.{entrant_line, line_of, text_of_round, entrant_record, table_of_round}
 use Rattle.formats.specs.declared.styles.SheetStyle.TheVariants as style
-use Rattle.sheets.specs.Sheet.{header, first_line, second_line, entrant_line, line_of}
-use Rattle.sheets.specs.Sheet.{text_of_round, entrant_record, record_of, table_of_round, is_marked}
-use Rattle.sheets.specs.Sheet.{sheet}
 
-flat_alike : (f g : ℕ → List ℕ) → ((n : ℕ) → f n ≡ g n) → (ns : List ℕ)
-    → flat_map f ns ≡ flat_map g ns
-flat_alike f g each [] = refl
-flat_alike f g each (n ∷ ns) = rw (each n, flat_alike f g each ns) refl
-
--- what is printed of a round, where it is there
-round_printed : (print prints : Settings × Table → List ℕ)
-    → ((r : Settings × Table) → print r ≡ prints r) → (before now : Option (Settings × Table))
-    → before ≡ now → option_map print before ≡ option_map prints now
-round_printed print prints each before now same = ap (option_map print) same ∙ step now
-  where
-    step : (o : Option (Settings × Table)) → option_map print o ≡ option_map prints o
-    step None = refl
-    step (Some r) = ap Some (each r)
+-- what is printed by names, by what the next round sees and by the round is alike where these are
+by_parts : (print : (ℕ → Option (List ℕ)) → Option (Settings × Table) → Settings × Table → List ℕ)
+    (names others : ℕ → Option (List ℕ)) (seen saw now was : Option (Settings × Table))
+    → ((n : ℕ) → names n ≡ others n) → seen ≡ saw → now ≡ was
+    → option_map (print names seen) now ≡ option_map (print others saw) was
+by_parts print names others seen saw now was named seen_alike same =
+    ap (λ (name : ℕ → Option (List ℕ)). option_map (print name seen) now) (fun_ext named)
+    ∙ ap (λ (before : Option (Settings × Table)). option_map (print others before) now) seen_alike
+    ∙ ap (option_map (print others saw)) same
 
 -- everybody has the same name
 abbrev pub AreNamedAlike : List Command → List Command → Type 0
 AreNamedAlike cs ds = (n : ℕ) → name_of cs n ≡ name_of ds n
-
-text_alike : (cs ds : List Command) (e : Event) (round position : ℕ) → AreNamedAlike cs ds
-    → seen_of cs e round ≡ seen_of ds e round → (r : Settings × Table)
-    → text_of_round cs e round position r ≡ text_of_round ds e round position r
-text_alike cs ds e round position names seen r =
-    ap
-    (λ (x : List ℕ). first_line e round r.0 r.1.is_closed position ++ second_line r.0 ++ x)
-    (flat_alike (line_of (unit_of e) cs r.0 r.1 (is_marked r.1 (seen_of cs e round)))
-    (line_of (unit_of e) ds r.0 r.1 (is_marked r.1 (seen_of ds e round))) each (standings r.1))
-  where
-    line : Option (Settings × Table) → ℕ → Option (List ℕ) → List ℕ
-    line before n name =
-        unwrap_or
-        (option_map (entrant_line (unit_of e) r.0 r.1 (is_marked r.1 before) n (unwrap_or name []))
-        (entrant r.1 n)) []
-
-    each : (n : ℕ) → line_of (unit_of e) cs r.0 r.1 (is_marked r.1 (seen_of cs e round)) n
-        ≡ line_of (unit_of e) ds r.0 r.1 (is_marked r.1 (seen_of ds e round)) n
-    each n =
-        ap (line (seen_of cs e round) n) (names n)
-        ∙ ap (λ before. line before n (name_of ds n)) seen
-
-table_alike : (cs ds : List Command) (e : Event) (round : ℕ) → AreNamedAlike cs ds
-    → seen_of cs e round ≡ seen_of ds e round → (r : Settings × Table)
-    → table_of_round cs e round r ≡ table_of_round ds e round r
-table_alike cs ds e round names seen r =
-    ap (λ (x : List ℕ). row_text default_writer (header (attempts_of r.0.format)) ++ x)
-    (flat_alike (record_of (unit_of e) cs r.0 r.1 (is_marked r.1 (seen_of cs e round)))
-    (record_of (unit_of e) ds r.0 r.1 (is_marked r.1 (seen_of ds e round))) each (standings r.1))
-  where
-    written : Option (Settings × Table) → ℕ → Option (List ℕ) → List ℕ
-    written before n name =
-        unwrap_or
-        (option_map
-        (entrant_record (unit_of e) r.0 r.1 (is_marked r.1 before) n (unwrap_or name []))
-        (entrant r.1 n)) []
-
-    each : (n : ℕ) → record_of (unit_of e) cs r.0 r.1 (is_marked r.1 (seen_of cs e round)) n
-        ≡ record_of (unit_of e) ds r.0 r.1 (is_marked r.1 (seen_of ds e round)) n
-    each n =
-        ap (written (seen_of cs e round) n) (names n)
-        ∙ ap (λ before. written before n (name_of ds n)) seen
 
 -- a round has the same sheets where it is the same, is seen alike by the next one, and everybody
 -- has the same name
@@ -84,13 +35,23 @@ pub sheets_alike : (cs ds : List Command) → AreNamedAlike cs ds → (s : Style
     → seen_of cs event round ≡ seen_of ds event round
     → sheet s cs event round position ≡ sheet s ds event round position
 sheets_alike cs ds names style.Text event round position same seen =
-    round_printed (text_of_round cs event round position) (text_of_round ds event round position)
-    (text_alike cs ds event round position names seen) (round_of cs event round)
-    (round_of ds event round) same
+    by_parts (λ name before r.
+    first_line event round r.0 r.1.is_closed position ++ second_line r.0
+    ++ flat_map (λ n.
+    unwrap_or (option_map
+    (entrant_line (unit_of event) r.0 r.1 (is_marked r.1 before) n (unwrap_or (name n) []))
+    (entrant r.1 n)) []) (standings r.1))
+    (name_of cs) (name_of ds) (seen_of cs event round) (seen_of ds event round)
+    (round_of cs event round) (round_of ds event round) names seen same
 sheets_alike cs ds names style.Table event round position same seen =
-    round_printed (table_of_round cs event round) (table_of_round ds event round)
-    (table_alike cs ds event round names seen) (round_of cs event round)
-    (round_of ds event round) same
+    by_parts (λ name before r.
+    row_text default_writer (header (attempts_of r.0.format))
+    ++ flat_map (λ n.
+    unwrap_or (option_map
+    (entrant_record (unit_of event) r.0 r.1 (is_marked r.1 before) n (unwrap_or (name n) []))
+    (entrant r.1 n)) []) (standings r.1))
+    (name_of cs) (name_of ds) (seen_of cs event round) (seen_of ds event round)
+    (round_of cs event round) (round_of ds event round) names seen same
 
 -- How the next round sees one
 
@@ -121,8 +82,7 @@ seen_is : (cs : List Command) (e : Event) (r : ℕ)
     → seen_of cs e r ≡ seen_with e r (before_of cs e (suc r)) (round_of cs e r)
 seen_is cs e r = step (opened e (suc r) [] cs)
   where
-    step : (next : Option Opened)
-        → seen_by e r cs next
+    step : (next : Option Opened) → seen_by e r cs next
         ≡ seen_with e r (option_map (λ (o : Opened). o.before) next) (round_of cs e r)
     step None = refl
     step (Some next) = refl

@@ -1,9 +1,7 @@
 -- Without later editions every sheet is that of a program that does not know them.
 use Rattle.std.proofs.Common.{ap}
-use Rattle.commands.specs.History.{History}
-use Rattle.commands.proofs.Known.{history_alike}
-use Rattle.sheets.specs.EditionLaw.{PrintsAsEarlier}
-use Rattle.sheets.specs.Sheet.{sheet}
+use Rattle.commands.{specs.History.History, proofs.Known.history_alike}
+use Rattle.sheets.specs.{EditionLaw.PrintsAsEarlier, Sheet.sheet}
 
 pub prints_as_earlier : PrintsAsEarlier
 prints_as_earlier k later entries style event round position most others =

@@ -3,14 +3,11 @@ use Rattle.std.proofs.Common.{◌≡◌, ℕ, ◌≤◌, List, length, Option, S
 use Rattle.std.proofs.Common.{subst}
 use Rattle.rounds.specs.Tables.{Table}
 use Rattle.texts.specs.declared.command.Settings.{Settings}
-use Rattle.commands.specs.History.{history}
-use Rattle.commands.specs.Accepted.{round_of}
+use Rattle.commands.specs.{History.history, Accepted.round_of}
 use Rattle.commands.proofs.Sizes.{IsSmallRound, small_history}
+use Rattle.sheets.specs.{Sheet.text_of_round, Sheet.table_of_round, FrameLaw.FitsInAFrame}
+use Rattle.sheets.proofs.{TextLengths.text_short, TableLengths.table_short}
 use Rattle.formats.specs.declared.styles.SheetStyle.TheVariants as style
-use Rattle.sheets.specs.Sheet.{text_of_round, table_of_round}
-use Rattle.sheets.specs.FrameLaw.{FitsInAFrame}
-use Rattle.sheets.proofs.TextLengths.{text_short}
-use Rattle.sheets.proofs.TableLengths.{table_short}
 
 -- what is printed of a round, where it is there
 printed : (round : ℕ) (print : Settings × Table → List ℕ) → ((r : Settings × Table)

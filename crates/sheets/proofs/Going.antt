@@ -1,16 +1,13 @@
 -- What is kept of who goes on from a round tells it of each number.
-use Rattle.std.proofs.Common.{◌≡◌, ◌∙◌, ℕ, Bool, List, [], ◌∷◌, nat_eq, Option, Some, None, refl}
-use Rattle.std.proofs.Common.{ap, suc, arith}
-use Rattle.std.specs.List.{list_any}
-use Rattle.std.specs.Option.{option_map}
-use Rattle.std.proofs.lemmas.Bool.Decides.{nat_tests}
+use Rattle.std.proofs.Common.{◌≡◌, ◌∙◌, ℕ, List, [], nat_eq, Option, Some, None, refl, ap, suc}
+use Rattle.std.proofs.{Common.arith, Common.Bool, lemmas.Bool.Decides.nat_tests, Math.Path.fun_ext}
+use Rattle.std.specs.{List.list_any, Option.option_map}
 use Rattle.formats.specs.declared.events.Event.{Event}
 use Rattle.rounds.specs.Tables.{Table}
 use Rattle.advancement.proofs.Listed.{is_listed}
-use Rattle.texts.specs.declared.command.Command.{Command}
-use Rattle.texts.specs.declared.command.Settings.{Settings}
-use Rattle.commands.specs.Accepted.{Opened, opened, round_in, seen_by, seen_of}
-use Rattle.commands.specs.Accepted.{who_advance, advanced_of}
+use Rattle.texts.specs.declared.command.{Command.Command, Settings.Settings}
+use Rattle.commands.specs.Accepted.{Opened, opened, round_in, seen_by, seen_of, who_advance}
+use Rattle.commands.specs.Accepted.{advanced_of}
 use Rattle.sheets.specs.Sheet.{goes_through}
 
 -- a number is one of those who advance from a round exactly where it goes on from it
@@ -24,8 +21,7 @@ flips x y = grind (arith, nat_tests)
 
 -- either way round
 flipped : (ns : List ℕ) (n : ℕ) → list_any (nat_eq n) ns ≡ list_any (λ m. nat_eq m n) ns
-flipped [] n = refl
-flipped (m ∷ ns) n = rw (flips n m, flipped ns n) refl
+flipped ns n = ap (λ (p : ℕ → Bool). list_any p ns) (fun_ext (flips n))
 
 -- those who advanced when the next round was opened are those who go on
 pub advanced_then : (cs : List Command) (e : Event) (r : ℕ) (ns : List ℕ)

@@ -1,18 +1,16 @@
 -- How long lists are that are put together, and what is known of an entrant that a sheet shows.
-use Rattle.std.proofs.Common.{◌≡◌, ℕ, ◌+◌, ◌-◌, ◌*◌, ◌≤◌, Bool, true, false, cond, List, [], ◌∷◌}
-use Rattle.std.proofs.Common.{◌++◌, length, replicate, flat_map, find, Option, Some, None, IfSome}
-use Rattle.std.proofs.Common.{unwrap_or, refl, arith, length-append, eqb-true}
-use Rattle.std.specs.List.{AllByRecursion}
-use Rattle.std.proofs.lemmas.List.{length-replicate}
-use Rattle.std.proofs.lemmas.List.Sums.{count_by-le-length}
-use Rattle.std.proofs.Math.Nat.{mul-suc}
-use Rattle.formats.specs.Results.{is_better}
-use Rattle.formats.specs.declared.events.Format.{Format}
-use Rattle.formats.specs.declared.events.Format.TheVariants.{Ao5, Mo3, Bo1, Bo2, Bo3}
-use Rattle.formats.specs.Events.{attempts_of}
+use Rattle.std.proofs.Common.{◌≡◌, ℕ, ◌+◌, ◌-◌, ◌*◌, ◌≤◌, List, [], ◌∷◌, ◌++◌, length, replicate}
+use Rattle.std.proofs.Common.{flat_map, Option, Some, None, IfSome, unwrap_or, refl, arith}
+use Rattle.std.proofs.Common.{length-append, eqb-true, sym, ◌∙◌}
+use Rattle.std.specs.List.{AllByRecursion, position_or_len}
+use Rattle.std.proofs.{Math.Nat.mul-suc, lemmas.List.Elements.All-from_recursion}
+use Rattle.std.proofs.lemmas.List.{length-replicate, Sums.count_by-le-length, Folds.find_at}
+use Rattle.formats.specs.{Results.is_better, Events.attempts_of}
+use Rattle.formats.specs.declared.events.Format.{Format, TheVariants.Ao5}
 use Rattle.rounds.specs.Tables.{Entrant, Table, has_number, entrant, key, place}
-use Rattle.commands.proofs.Sizes.{IsSmallEntrant, IsSmallName}
+use Rattle.commands.proofs.{Sizes.IsSmallEntrant, Sizes.IsSmallName, Places.find_passes}
 use Rattle.sheets.specs.Sheet.{right}
+use Rattle.rounds.proofs.KeyOrder.{at_index}
 
 -- Lists
 
@@ -46,25 +44,19 @@ pub record IsShown (n : ℕ) (e : Entrant) : Type 0 where
   pub number : n ≤ 9999
   pub parts : IsSmallEntrant e
 
-found_in : (n : ℕ) (es : List Entrant) → AllByRecursion IsSmallEntrant es
-    → IfSome (find (has_number n) es) (IsShown n)
-found_in n [] are = tt
-found_in n (e ∷ es) are = step (has_number n e) refl are.0 (found_in n es are.1)
-  where
-    step : (b : Bool) → has_number n e ≡ b → IsSmallEntrant e
-        → IfSome (find (has_number n) es) (IsShown n)
-        → IfSome (cond b (Some e) (find (has_number n) es)) (IsShown n)
-    step true is small later = let same : n ≡ e.number =
-        eqb-true n e.number is in record {
-          number = let most = small.number in
-              omega (arith, same, most);
-          parts = small;
-        }
-    step false is small later = later
-
 pub shown : (t : Table) → AllByRecursion IsSmallEntrant t.entrants → (n : ℕ)
     → IfSome (entrant t n) (IsShown n)
-shown t are n = found_in n t.entrants are
+shown t are n = step (entrant t n) refl
+  where
+    step : (o : Option Entrant) → entrant t n ≡ o → IfSome o (IsShown n)
+    step None is = tt
+    step (Some e) is =
+        let small =
+        at_index IsSmallEntrant t.entrants (position_or_len (has_number n) t.entrants) e
+        (All-from_recursion IsSmallEntrant t.entrants are)
+        (sym (find_at (has_number n) t.entrants) ∙ is) in
+        let same = eqb-true n e.number (find_passes (has_number n) t.entrants e is) in
+        record { number = omega (arith, same, small.number); parts = small }
 
 pub place_small : (t : Table) → length t.entrants ≤ 999 → (e : Entrant) → place t e ≤ 1000
 place_small t few e = let less =
@@ -83,7 +75,4 @@ name_given_short name h = let small = name_given_small name h in omega (arith, s
 
 pub at_most_five : (format : Format) → attempts_of format ≤ 5
 at_most_five Ao5 = omega arith
-at_most_five Mo3 = omega arith
-at_most_five Bo1 = omega arith
-at_most_five Bo2 = omega arith
-at_most_five Bo3 = omega arith
+at_most_five _ = omega arith

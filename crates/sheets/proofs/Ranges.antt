@@ -1,9 +1,8 @@
 -- One more number of a range.
-use Rattle.std.proofs.Common.{◌≡◌, ℕ, ◌+◌, zero, suc, List, [], ◌∷◌, ◌++◌, flat_map, map, ap, sym}
-use Rattle.std.proofs.Common.{◌∙◌, add-zero, zero-add, add-one, append-nil, append_assoc, arith}
+use Rattle.std.proofs.Common.{◌≡◌, ℕ, ◌+◌, suc, List, [], ◌∷◌, ◌++◌, map, ap, sym, ◌∙◌, arith, refl}
+use Rattle.std.proofs.Common.{zero, flat_map, add-zero, zero-add, add-one, append-nil, append_assoc}
 use Rattle.std.specs.List.{range_with_len}
-use Rattle.std.proofs.lemmas.List.{map-append}
-use Rattle.std.proofs.lemmas.Grind.{flat_map-append}
+use Rattle.std.proofs.lemmas.{Grind.flat_map-append, List.FromFn.map-range_with_len_more}
 
 range_push : (a n : ℕ) → range_with_len a (suc n) ≡ range_with_len a n ++ (a + n) ∷ []
 range_push a zero = ap (λ m. m ∷ []) (sym (add-zero a))
@@ -29,5 +28,4 @@ field_more f a n m text old now new so_far more is at =
     ∙ ap (λ x. now ++ x ∷ []) (is ∙ ap f at)
     ∙ ap (λ x. x ++ f (a + n) ∷ []) so_far
     ∙ append_assoc old (map f (range_with_len a n)) (f (a + n) ∷ [])
-    ∙ ap (λ x. old ++ x) (sym (ap (λ k. map f (range_with_len a k)) (add-one n)
-    ∙ ap (map f) (range_push a n) ∙ map-append f (range_with_len a n) ((a + n) ∷ [])))
+    ∙ ap (λ x. old ++ x) (sym (map-range_with_len_more f a n (a + n) refl))

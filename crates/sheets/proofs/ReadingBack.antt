@@ -1,37 +1,20 @@
 -- The table of a sheet reads back as the fields that were written.
-use Rattle.std.proofs.Common.{◌≡◌, ◌∙◌, ℕ, Bool, true, false, cond, ◌==◌, List, [], ◌∷◌, ◌++◌, map}
-use Rattle.std.proofs.Common.{flat_map, find, Some, None, option_map, unwrap_or, length}
-use Rattle.std.proofs.Common.{refl, sym, ap, subst, eqb-true}
-use Rattle.std.proofs.lemmas.Bool.{eq-eqb}
-use Rattle.std.specs.List.{AllByRecursion, range_with_len}
-use Rattle.csv.specs.Machine.{next_record}
+use Rattle.std.proofs.Common.{◌≡◌, ◌∙◌, ℕ, Bool, true, false, cond, List, [], ◌∷◌, ◌++◌, map}
+use Rattle.std.proofs.Common.{flat_map, find, Some, None, option_map, unwrap_or, refl, sym, ap}
+use Rattle.std.{proofs.Common.subst, proofs.Common.eqb-true, specs.List.AllByRecursion}
+use Rattle.std.proofs.lemmas.{Bool.eq-eqb, List.Elements.All-map, List.Sorted.All-permutation}
+use Rattle.csv.{specs.Machine.next_record, proofs.RoundTrip.read-write, proofs.RoundTrip.rows_text}
 use Rattle.csv.specs.Reading.{Reached, default_config, strip_bom}
 use Rattle.csv.specs.Writing.{default_writer, read_back, row_text}
+use Rattle.formats.specs.{declared.events.Event.Event, Events.attempts_of, Events.unit_of}
+use Rattle.rounds.specs.Tables.{Entrant, Table, entrant, has_number, number_of_entrant, standings}
+use Rattle.texts.specs.declared.command.{Command.Command, Settings.Settings}
+use Rattle.commands.{specs.Accepted.seen_of, proofs.Places.find_passes}
+use Rattle.sheets.specs.Sheet.{entrant_record, header, is_marked, name_text, table_of_round}
+use Rattle.sheets.specs.{Sheet.record_of, ReadingBack.TableReadsBack, ReadingBack.fields_of_entrant}
+use Rattle.std.proofs.lemmas.List.Elements.{All-from_recursion, recursion_from_All, All-weaker}
+use Rattle.advancement.proofs.Listed.{all_stand}
 use Rattle.csv.specs.declared.parser.State.TheVariants as st
-use Rattle.csv.proofs.RoundTrip.{read-write, rows_text}
-use Rattle.formats.specs.declared.events.Event.{Event}
-use Rattle.formats.specs.Events.{attempts_of, unit_of}
-use Rattle.rounds.specs.Tables.{Entrant, Table, at_place, entrant, has_number, number_of_entrant}
-use Rattle.rounds.specs.Tables.{place, standings}
-use Rattle.texts.specs.declared.command.Command.{Command}
-use Rattle.texts.specs.declared.command.Settings.{Settings}
-use Rattle.commands.specs.Accepted.{seen_of}
-use Rattle.commands.proofs.Sizes.{all_filter, all_flat_map}
-use Rattle.sheets.specs.Sheet.{entrant_record, header, is_marked, name_text, record_of}
-use Rattle.sheets.specs.Sheet.{table_of_round}
-use Rattle.sheets.specs.ReadingBack.{TableReadsBack, fields_of_entrant}
-
--- Lists
-
-all_weaker : {X : Type 0} (P Q : X → Type 0) → ((x : X) → P x → Q x) → (xs : List X)
-    → AllByRecursion P xs → AllByRecursion Q xs
-all_weaker P Q each [] h = tt
-all_weaker P Q each (x ∷ xs) h = (each x h.0, all_weaker P Q each xs h.1)
-
-all_map : {X Y : Type 0} (P : Y → Type 0) (f : X → Y) (xs : List X)
-    → AllByRecursion (λ x. P (f x)) xs → AllByRecursion P (map f xs)
-all_map P f [] h = tt
-all_map P f (x ∷ xs) h = (h.0, all_map P f xs h.1)
 
 -- Entrants
 
@@ -39,12 +22,10 @@ all_map P f (x ∷ xs) h = (h.0, all_map P f xs h.1)
 abbrev IsFound : List Entrant → ℕ → Type 0
 IsFound es n = (e : Entrant) × (find (has_number n) es ≡ Some e)
 
-found_behind : (first : Entrant) (es : List Entrant) (n : ℕ) → IsFound es n
-    → IsFound (first ∷ es) n
+found_behind : (first : Entrant) (es : List Entrant) (n : ℕ) → IsFound es n → IsFound (first ∷ es) n
 found_behind first es n is = step (has_number n first)
   where
-    step : (b : Bool)
-        → (e : Entrant) × (cond b (Some first) (find (has_number n) es) ≡ Some e)
+    step : (b : Bool) → (e : Entrant) × (cond b (Some first) (find (has_number n) es) ≡ Some e)
     step true = (first, refl)
     step false = is
 
@@ -52,31 +33,23 @@ all_found : (es : List Entrant) → AllByRecursion (λ e. IsFound es e.number) e
 all_found [] = tt
 all_found (e ∷ es) = (
   (e, ap (λ b. cond b (Some e) (find (has_number e.number) es)) (eq-eqb e.number e.number refl)),
-  all_weaker (λ x. IsFound es x.number) (λ x. IsFound (e ∷ es) x.number)
-      (λ x is. found_behind e es x.number is) es (all_found es),
+  recursion_from_All (λ x. IsFound (e ∷ es) x.number) es
+      (All-weaker (λ x. IsFound es x.number) (λ x. IsFound (e ∷ es) x.number)
+      (λ x is. found_behind e es x.number is) es
+      (All-from_recursion (λ x. IsFound es x.number) es (all_found es))),
 )
 
 -- who is found has the number
 found_number : (es : List Entrant) (n : ℕ) (e : Entrant) → find (has_number n) es ≡ Some e
     → n ≡ e.number
-found_number [] n e is = absurd (cc is)
-found_number (first ∷ es) n e is =
-    step (has_number n first) refl is (λ later. found_number es n e later)
-  where
-    step : (b : Bool) → has_number n first ≡ b
-        → cond b (Some first) (find (has_number n) es) ≡ Some e
-        → (find (has_number n) es ≡ Some e → n ≡ e.number) → n ≡ e.number
-    step true same here behind =
-        let it : first ≡ e = cc here in eqb-true n first.number same ∙ ap number_of_entrant it
-    step false other later behind = behind later
+found_number es n e is = eqb-true n e.number (find_passes (has_number n) es e is)
 
 all_standing : (t : Table) → AllByRecursion (IsFound t.entrants) (standings t)
 all_standing t =
-    all_flat_map (IsFound t.entrants) (λ p. map number_of_entrant (at_place t p))
-    (λ p. all_map (IsFound t.entrants) number_of_entrant (at_place t p)
-    (all_filter (λ e. IsFound t.entrants e.number) (λ e. place t e == p) t.entrants
-    (all_found t.entrants)))
-    (range_with_len 1 (length t.entrants))
+    recursion_from_All (IsFound t.entrants) (standings t)
+    (All-permutation (IsFound t.entrants) (map number_of_entrant t.entrants) (standings t)
+    (all_stand t) (All-map (IsFound t.entrants) number_of_entrant t.entrants
+    (All-from_recursion (λ e. IsFound t.entrants e.number) t.entrants (all_found t.entrants))))
 
 -- Records
 
@@ -94,13 +67,11 @@ Gathered cs event round r ns =
     ≡ rows_text (map (fields_of_entrant cs event round r) es))
 
 record_found : (cs : List Command) (event : Event) (round : ℕ) (r : Settings × Table)
-    (e : Entrant) → entrant r.1 e.number ≡ Some e
-    → record_in cs event round r e.number
+    (e : Entrant) → entrant r.1 e.number ≡ Some e → record_in cs event round r e.number
     ≡ row_text default_writer (fields_of_entrant cs event round r e)
 unfolding entrant_record
 record_found cs event round r e is =
-    ap
-    (λ o. unwrap_or
+    ap (λ o. unwrap_or
     (option_map (entrant_record (unit_of event) r.0 r.1 (is_marked r.1 (seen_of cs event round))
     e.number (name_text cs e.number)) o) []) is
 
@@ -149,15 +120,13 @@ each_has_fields cs event round r [] = tt
 each_has_fields cs event round r (e ∷ es) = (refl, each_has_fields cs event round r es)
 
 -- the table begins with the name of a column, and so with no mark of an order of bytes
-no_mark : (n : ℕ) (rest : List ℕ)
-    → strip_bom (row_text default_writer (header n) ++ rest)
+no_mark : (n : ℕ) (rest : List ℕ) → strip_bom (row_text default_writer (header n) ++ rest)
     ≡ row_text default_writer (header n) ++ rest
 unfolding strip_bom
 no_mark n rest = refl
 
 table_rows : (cs : List Command) (event : Event) (round : ℕ) (r : Settings × Table)
-    → (g : Gathered cs event round r (standings r.1))
-    → table_of_round cs event round r
+    → (g : Gathered cs event round r (standings r.1)) → table_of_round cs event round r
     ≡ rows_text (header (attempts_of r.0.format) ∷ map (fields_of_entrant cs event round r) g.0)
 unfolding rows_text
 table_rows cs event round r g =

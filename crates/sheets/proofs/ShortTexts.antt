@@ -3,30 +3,26 @@ use Rattle.std.proofs.Common.{◌≡◌, ℕ, zero, suc, ◌+◌, ◌-◌, ◌*�
 use Rattle.std.proofs.Common.{false, ◌==◌, cond, min, nat_lt, nat_le, List, [], ◌∷◌, ◌++◌, length}
 use Rattle.std.proofs.Common.{fold, sum, unwrap_or, codes, decimal, Option, Some, None, IfSome}
 use Rattle.std.proofs.Common.{refl, arith, length-append, eqb-true}
-use Rattle.std.specs.Char.{is_ascii_digit}
+use Rattle.std.{specs.Char.is_ascii_digit, proofs.Math.Nat.min-le_left}
 use Rattle.std.specs.List.{AllByRecursion, list_all, list_any}
-use Rattle.std.proofs.lemmas.Bool.Decides.{nat_tests}
-use Rattle.std.proofs.lemmas.Fmt.{length-decimal-le}
-use Rattle.std.proofs.lemmas.List.Sums.{sum_by-cons}
-use Rattle.std.proofs.Math.Nat.{min-le_left}
-use Rattle.attempts.specs.declared.Value.{Value}
-use Rattle.attempts.specs.declared.Value.TheVariants as value
-use Rattle.attempts.specs.declared.Unit.{Unit as Measure}
+use Rattle.std.proofs.lemmas.{Bool.Decides.nat_tests, Fmt.length-decimal-le}
+use Rattle.attempts.specs.declared.{Value.Value, Unit.Unit as Measure}
 use Rattle.attempts.specs.declared.Unit.TheVariants.{Time, Moves, Multi}
 use Rattle.attempts.specs.Attempts.{IsInRangeOf}
 use Rattle.attempts.specs.Texts.{two_digits, time_text, clock_text, points_in, unsolved_in}
 use Rattle.attempts.specs.Texts.{solved_in, attempted_in, seconds_in, multi_text, value_text}
 use Rattle.csv.specs.Writing.{default_writer, needs_byte}
-use Rattle.formats.specs.declared.events.Format.{Format}
-use Rattle.formats.specs.declared.events.Format.TheVariants.{Ao5, Mo3, Bo1, Bo2, Bo3}
+use Rattle.formats.specs.declared.events.Format.{Format, TheVariants.Ao5, TheVariants.Mo3}
 use Rattle.formats.specs.declared.results.Averaged.{Averaged}
-use Rattle.formats.specs.declared.results.Averaged.TheVariants as averaged
 use Rattle.formats.specs.Results.{numbers, least, greatest, number_or, without_number, is_dnf}
 use Rattle.formats.specs.Results.{best_of, third_of, without_least, trimmed, mean_of, average_of}
 use Rattle.formats.specs.Results.{moves_text, averaged_text, average_text}
-use Rattle.texts.proofs.Cuts.{and-true}
-use Rattle.texts.proofs.FieldSpellings.{decimal_digits}
+use Rattle.texts.proofs.{Cuts.and-true, FieldSpellings.decimal_digits}
 use Rattle.sheets.specs.Sheet.{best_text, attempt_text}
+use Rattle.commands.proofs.Sizes.{all_append}
+use Rattle.std.proofs.lemmas.List.{Sums.sum_by-le, Elements.All-from_recursion}
+use Rattle.attempts.specs.declared.Value.TheVariants as value
+use Rattle.formats.specs.declared.results.Averaged.TheVariants as averaged
 
 -- the byte calls for no quotes
 abbrev pub IsBare : ℕ → Type 0
@@ -41,16 +37,11 @@ pub record IsPlain (most : ℕ) (text : List ℕ) : Type 0 where
   pub short : length text ≤ most
   pub unquoted : AllByRecursion IsBare text
 
-unquoted_append : (xs ys : List ℕ) → AllByRecursion IsBare xs → AllByRecursion IsBare ys
-    → AllByRecursion IsBare (xs ++ ys)
-unquoted_append [] ys h k = k
-unquoted_append (x ∷ xs) ys h k = (h.0, unquoted_append xs ys h.1 k)
-
 pub plain_append : (a b most : ℕ) (xs ys : List ℕ) → a + b ≤ most → IsPlain a xs → IsPlain b ys
     → IsPlain most (xs ++ ys)
 plain_append a b most xs ys room x y = record {
   short = let long = length-append xs ys in omega (arith, long, x.short, y.short, room);
-  unquoted = unquoted_append xs ys x.unquoted y.unquoted;
+  unquoted = all_append IsBare xs ys x.unquoted y.unquoted;
 }
 
 plain_more : (a most : ℕ) (xs : List ℕ) → a ≤ most → IsPlain a xs → IsPlain most xs
@@ -91,8 +82,7 @@ plain_seconds : (n : ℕ) → n < 6000 → IsPlain 15 (decimal (n / 100) ++ code
 plain_seconds n small =
     plain_append 3 2 15 (decimal (n / 100) ++ codes ".") (two_digits (n % 100)) (omega arith)
     (plain_append 2 1 3 (decimal (n / 100)) (codes ".") (omega arith) (plain_decimal 2 (n / 100)
-    (omega arith) (omega arith) (omega arith)) plain_point)
-    (plain_two (n % 100))
+    (omega arith) (omega arith) (omega arith)) plain_point) (plain_two (n % 100))
 
 plain_minutes : (n : ℕ) → n < 200000000000 → IsPlain 15 (decimal (n / 6000) ++ codes ":"
     ++ two_digits (n / 100 % 60) ++ codes "." ++ two_digits (n % 100))
@@ -103,9 +93,7 @@ plain_minutes n small =
     (codes ".") (omega arith)
     (plain_append 9 2 11 (decimal (n / 6000) ++ codes ":") (two_digits (n / 100 % 60)) (omega arith)
     (plain_append 8 1 9 (decimal (n / 6000)) (codes ":") (omega arith) (plain_decimal 8 (n / 6000)
-    (omega arith) (omega arith) (omega arith)) plain_colon)
-    (plain_two (n / 100 % 60)))
-    plain_point)
+    (omega arith) (omega arith) (omega arith)) plain_colon) (plain_two (n / 100 % 60))) plain_point)
     (plain_two (n % 100))
 
 plain_time : (n : ℕ) → n < 200000000000 → IsPlain 15 (time_text n)
@@ -122,8 +110,7 @@ plain_moves : (n : ℕ) → n < 200000000000 → IsPlain 15 (moves_text n)
 plain_moves n small =
     plain_append 11 2 15 (decimal (n / 100) ++ codes ".") (two_digits (n % 100)) (omega arith)
     (plain_append 10 1 11 (decimal (n / 100)) (codes ".") (omega arith) (plain_decimal 10 (n / 100)
-    (omega arith) (omega arith) (omega arith)) plain_point)
-    (plain_two (n % 100))
+    (omega arith) (omega arith) (omega arith)) plain_point) (plain_two (n % 100))
 
 -- Results of multi-blind, of any number
 
@@ -145,8 +132,7 @@ few_seconds n = omega arith
 plain_clock : (seconds : ℕ) → seconds ≤ 99999 → IsPlain 7 (clock_text seconds)
 plain_clock seconds few =
     plain_append 5 2 7 (decimal (seconds / 60) ++ codes ":") (two_digits (seconds % 60))
-    (omega arith)
-    (plain_append 4 1 5 (decimal (seconds / 60)) (codes ":") (omega arith)
+    (omega arith) (plain_append 4 1 5 (decimal (seconds / 60)) (codes ":") (omega arith)
     (plain_decimal 4 (seconds / 60) (omega arith) (omega arith) (omega arith)) plain_colon)
     (plain_two (seconds % 60))
 
@@ -159,8 +145,7 @@ plain_cubes solved attempted seconds some all few =
     (plain_append 4 3 7 (decimal solved ++ codes "/") (decimal attempted) (omega arith)
     (plain_append 3 1 4 (decimal solved) (codes "/") (omega arith)
     (plain_decimal 3 solved (omega arith) (omega arith) (omega arith)) plain_slash)
-    (plain_decimal 3 attempted (omega arith) (omega arith) (omega arith)))
-    plain_space)
+    (plain_decimal 3 attempted (omega arith) (omega arith) (omega arith))) plain_space)
     (plain_clock seconds few)
 
 plain_multi : (n : ℕ) → IsPlain 15 (multi_text (solved_in n) (attempted_in n) (seconds_in n))
@@ -215,7 +200,7 @@ least_small : (ns : List ℕ) → AllByRecursion IsSmallNumber ns → IfSome (le
 least_small [] are = tt
 least_small (n ∷ ns) are = fold_small n ns are.0
 
-best_small : (vs : List Value) → AllByRecursion IsSmallValue vs → IsSmallValue (best_of vs)
+pub best_small : (vs : List Value) → AllByRecursion IsSmallValue vs → IsSmallValue (best_of vs)
 best_small vs are =
     step (least (numbers vs)) (list_any is_dnf vs) (least_small (numbers vs) (numbers_small vs are))
   where
@@ -233,9 +218,8 @@ plain_best unit (v ∷ vs) are = plain_value unit (best_of (v ∷ vs)) (best_sma
 -- The average
 
 sum_small : (ns : List ℕ) → AllByRecursion IsSmallNumber ns → sum ns ≤ length ns * 990599949
-sum_small [] are = omega arith
-sum_small (n ∷ ns) are = let rest = sum_small ns are.1 in let first = are.0 in let more =
-    sum_by-cons (λ (x : ℕ). x) n ns in omega (arith, rest, first, more)
+sum_small ns are =
+    sum_by-le (λ x. x) 990599949 ns (All-from_recursion IsSmallNumber ns are)
 
 third_small : (unit : Measure) (s : ℕ) → s ≤ 5000000000 → third_of unit s < 200000000000
 third_small Time s small = step (nat_le s 180000)
@@ -246,60 +230,64 @@ third_small Time s small = step (nat_le s 180000)
 third_small Moves s small = omega arith
 third_small Multi s small = omega arith
 
-plain_third : (printed unit : Measure) (s : ℕ) → s ≤ 5000000000
-    → IsPlain 15 (averaged_text printed (third_of unit s))
-plain_third Time unit s small = plain_time (third_of unit s) (third_small unit s small)
-plain_third Moves unit s small = let low =
-    third_small unit s small in plain_moves (third_of unit s) (omega (arith, low))
-plain_third Multi unit s small = plain_multi (third_of unit s)
+plain_number : (printed : Measure) (n : ℕ) → n < 200000000000 → IsPlain 15 (averaged_text printed n)
+plain_number Time n small = plain_time n small
+plain_number Moves n small = plain_moves n small
+plain_number Multi n small = plain_multi n
 
-plain_trimmed : (printed unit : Measure) (ns : List ℕ) → AllByRecursion IsSmallNumber ns
-    → IsPlain 15 (average_text printed (trimmed unit ns))
-plain_trimmed printed unit ns are = step (length ns == 5) (length ns == 4) refl refl
+trimmed_holds : (P : Averaged → Type 0) → P averaged.Dnf
+    → ((n : ℕ) → n < 200000000000 → P (averaged.Number n)) → (unit : Measure) (ns : List ℕ)
+    → AllByRecursion IsSmallNumber ns → P (trimmed unit ns)
+trimmed_holds P dnf each unit ns are = step (length ns == 5) (length ns == 4) refl refl
   where
     step : (a b : Bool) → (length ns == 5) ≡ a → (length ns == 4) ≡ b
-        → IsPlain 15
-        (average_text printed
-        (cond a (averaged.Number (third_of unit (without_least ns - unwrap_or (greatest ns) 0)))
-        (cond b (averaged.Number (third_of unit (without_least ns))) averaged.Dnf)))
+        → P (cond a (averaged.Number (third_of unit (without_least ns - unwrap_or (greatest ns) 0)))
+        (cond b (averaged.Number (third_of unit (without_least ns))) averaged.Dnf))
     step true b is_a is_b =
         let five : length ns ≡ 5 = eqb-true (length ns) 5 is_a in
         let all = sum_small ns are in
-        plain_third printed unit (without_least ns - unwrap_or (greatest ns) 0)
-        (omega (arith, five, all))
+        each (third_of unit (without_least ns - unwrap_or (greatest ns) 0))
+        (third_small unit (without_least ns - unwrap_or (greatest ns) 0) (omega (arith, five, all)))
     step false true is_a is_b =
         let four : length ns ≡ 4 = eqb-true (length ns) 4 is_b in
         let all = sum_small ns are in
-        plain_third printed unit (without_least ns) (omega (arith, four, all))
-    step false false is_a is_b = plain_dnf
+        each (third_of unit (without_least ns))
+        (third_small unit (without_least ns) (omega (arith, four, all)))
+    step false false is_a is_b = dnf
 
-plain_mean : (printed unit : Measure) (ns : List ℕ) → AllByRecursion IsSmallNumber ns
-    → IsPlain 15 (average_text printed (mean_of unit ns))
-plain_mean printed unit ns are = step (length ns == 3) refl
+mean_holds : (P : Averaged → Type 0) → P averaged.Dnf
+    → ((n : ℕ) → n < 200000000000 → P (averaged.Number n)) → (unit : Measure) (ns : List ℕ)
+    → AllByRecursion IsSmallNumber ns → P (mean_of unit ns)
+mean_holds P dnf each unit ns are = step (length ns == 3) refl
   where
     step : (a : Bool) → (length ns == 3) ≡ a
-        → IsPlain 15
-        (average_text printed (cond a (averaged.Number (third_of unit (sum ns))) averaged.Dnf))
+        → P (cond a (averaged.Number (third_of unit (sum ns))) averaged.Dnf)
     step true is =
         let three : length ns ≡ 3 = eqb-true (length ns) 3 is in
         let all = sum_small ns are in
-        plain_third printed unit (sum ns) (omega (arith, three, all))
-    step false is = plain_dnf
+        each (third_of unit (sum ns)) (third_small unit (sum ns) (omega (arith, three, all)))
+    step false is = dnf
 
-plain_if : (printed : Measure) (b : Bool) (x : Averaged) → IsPlain 15 (average_text printed x)
-    → IsPlain 15 (average_text printed (cond b x averaged.Missing))
-plain_if printed true x is = is
-plain_if printed false x is = plain_dash
+holds_if : (P : Averaged → Type 0) (b : Bool) (x : Averaged) → P averaged.Missing → P x
+    → P (cond b x averaged.Missing)
+holds_if P true x none is = is
+holds_if P false x none is = none
+
+-- what holds of no average, of DNF and of each small number holds of the average of such values
+pub average_holds : (P : Averaged → Type 0) → P averaged.Missing → P averaged.Dnf
+    → ((n : ℕ) → n < 200000000000 → P (averaged.Number n)) → (format : Format) (unit : Measure)
+    (vs : List Value) → AllByRecursion IsSmallValue vs → P (average_of format unit vs)
+average_holds P none dnf each Ao5 unit vs are =
+    holds_if P (length vs == 5) (trimmed unit (numbers vs)) none
+    (trimmed_holds P dnf each unit (numbers vs) (numbers_small vs are))
+average_holds P none dnf each Mo3 unit vs are =
+    holds_if P (length vs == 3) (mean_of unit (numbers vs)) none
+    (mean_holds P dnf each unit (numbers vs) (numbers_small vs are))
+average_holds P none dnf each _ unit vs are = none
 
 -- an average, printed as the event has it
 pub plain_average : (printed : Measure) (format : Format) (unit : Measure) (vs : List Value)
     → AllByRecursion IsSmallValue vs → IsPlain 15 (average_text printed (average_of format unit vs))
-plain_average printed Ao5 unit vs are =
-    plain_if printed (length vs == 5) (trimmed unit (numbers vs)) (plain_trimmed printed unit
-    (numbers vs) (numbers_small vs are))
-plain_average printed Mo3 unit vs are =
-    plain_if printed (length vs == 3) (mean_of unit (numbers vs))
-    (plain_mean printed unit (numbers vs) (numbers_small vs are))
-plain_average printed Bo1 unit vs are = plain_dash
-plain_average printed Bo2 unit vs are = plain_dash
-plain_average printed Bo3 unit vs are = plain_dash
+plain_average printed =
+    average_holds (λ x. IsPlain 15 (average_text printed x)) plain_dash plain_dnf
+    (plain_number printed)

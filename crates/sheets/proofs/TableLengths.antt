@@ -2,24 +2,19 @@
 use Rattle.std.proofs.Common.{◌≡◌, ℕ, zero, suc, ◌+◌, ◌*◌, ◌≤◌, Bool, true, false, ◌==◌, cond, List}
 use Rattle.std.proofs.Common.{[], ◌∷◌, ◌++◌, length, map, flat_map, codes, decimal, Option, Some}
 use Rattle.std.proofs.Common.{None, IfSome, count_by, option_map, unwrap_or, refl, arith}
-use Rattle.std.proofs.Common.{length-append}
+use Rattle.std.proofs.{Common.length-append, lemmas.List.FromFn.length-range_with_len}
 use Rattle.std.specs.List.{AllByRecursion, range_with_len}
-use Rattle.std.proofs.lemmas.List.FromFn.{length-range_with_len}
-use Rattle.std.proofs.lemmas.List.Sums.{sum_by-cons}
+use Rattle.std.proofs.lemmas.List.Sums.{sum_by-cons, count_by-le-length}
 use Rattle.csv.specs.Writing.{default_writer, needs_quotes, escaped, quoted, field_text}
 use Rattle.csv.specs.Writing.{fields_text, is_blank, row_text}
-use Rattle.attempts.specs.declared.Unit.{Unit as Measure}
-use Rattle.attempts.specs.declared.Value.{Value}
-use Rattle.formats.specs.declared.events.Event.{Event}
-use Rattle.formats.specs.declared.results.Averaged.{Averaged}
+use Rattle.attempts.specs.declared.{Unit.Unit as Measure, Value.Value}
+use Rattle.formats.specs.declared.{events.Event.Event, results.Averaged.Averaged}
 use Rattle.formats.specs.Events.{attempts_of, unit_of}
 use Rattle.formats.specs.Results.{average_of, average_text}
 use Rattle.rounds.specs.Tables.{Entrant, Table, entrant, place, standings}
-use Rattle.texts.specs.declared.command.Command.{Command}
-use Rattle.texts.specs.declared.command.Settings.{Settings}
+use Rattle.texts.specs.declared.command.{Command.Command, Settings.Settings}
 use Rattle.commands.specs.Accepted.{name_of, seen_of}
-use Rattle.commands.proofs.Sizes.{IsSmall, IsSmallName, IsSmallRound, IsSmallEntrant}
-use Rattle.commands.proofs.Sizes.{standings_few}
+use Rattle.commands.proofs.Sizes.{IsSmall, IsSmallName, IsSmallRound, IsSmallEntrant, standings_few}
 use Rattle.sheets.specs.Sheet.{attempt_text, best_text, is_marked, name_text, yes_or_no, header}
 use Rattle.sheets.specs.Sheet.{entrant_fields, entrant_record, record_of, table_of_round}
 use Rattle.sheets.proofs.ShortTexts.{IsPlain, IsBare, IsSmallValue, plain_decimal, plain_attempt}
@@ -33,29 +28,9 @@ bare : (text : List ℕ) → AllByRecursion IsBare text → needs_quotes default
 bare [] are = refl
 bare (b ∷ bytes) are = rw (are.0, bare bytes are.1) refl
 
--- a quote mark between quotes is doubled
-escaped_short : (text : List ℕ) → length (escaped default_writer text) ≤ 2 * length text
-unfolding escaped
-escaped_short [] = omega arith
-escaped_short (b ∷ bytes) = step (b == 34) (escaped_short bytes)
-  where
-    step : (t : Bool) → length (escaped default_writer bytes) ≤ 2 * length bytes
-        → length (cond t (34 ∷ b ∷ escaped default_writer bytes) (b ∷ escaped default_writer bytes))
-        ≤ 2 * length (b ∷ bytes)
-    step true rest = omega (arith, rest)
-    step false rest = omega (arith, rest)
-
 field_plain : (most : ℕ) (text : List ℕ) → IsPlain most text
     → length (field_text default_writer text) ≤ most
 field_plain most text is = rw (bare text is.unquoted) is.short
-
-field_short : (text : List ℕ) → length text ≤ 80 → length (field_text default_writer text) ≤ 162
-field_short text short = step (needs_quotes default_writer text)
-  where
-    step : (b : Bool) → length (cond b (quoted default_writer text) text) ≤ 162
-    step true = let long = length-append (escaped default_writer text) (34 ∷ []) in let twice =
-        escaped_short text in omega (arith, long, twice, short)
-    step false = omega (arith, short)
 
 -- of each quote mark there is one more
 escaped_more : (text : List ℕ)
@@ -83,6 +58,11 @@ name_short name small = step (needs_quotes default_writer name)
         let more = escaped_more name in
         omega (arith, long, more, small)
     step false = omega (arith, small)
+
+field_short : (text : List ℕ) → length text ≤ 80 → length (field_text default_writer text) ≤ 162
+field_short text short =
+    let few = count_by-le-length (λ b. b == 34) text in
+    name_short text (omega (arith, few, short))
 
 -- one more field, behind a comma
 fields_short : (a b : ℕ) (field : List ℕ) (rest : List (List ℕ))
@@ -189,8 +169,7 @@ record_of_short : (unit : Measure) (cs : List Command) (settings : Settings) (t 
     → length (record_of unit cs settings t marks n) ≤ 291
 record_of_short unit cs settings t marks small few are n = step (entrant t n) (shown t are n)
   where
-    step : (o : Option Entrant) → IfSome o (IsShown n)
-        → length
+    step : (o : Option Entrant) → IfSome o (IsShown n) → length
         (unwrap_or (option_map (entrant_record unit settings t marks n (name_text cs n)) o) [])
         ≤ 291
     step None is = omega arith

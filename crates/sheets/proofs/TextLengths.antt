@@ -1,21 +1,14 @@
 -- How long a sheet is as text.
 use Rattle.std.proofs.Common.{ℕ, ◌^◌, ◌<◌, ◌≤◌, Bool, true, false, List, [], ◌++◌, length, flat_map}
 use Rattle.std.proofs.Common.{codes, decimal, Option, Some, None, IfSome, option_map, unwrap_or}
-use Rattle.std.proofs.Common.{arith}
-use Rattle.std.specs.List.{AllByRecursion, range_with_len}
-use Rattle.std.proofs.lemmas.Fmt.{length-decimal-le}
-use Rattle.std.proofs.lemmas.List.FromFn.{length-range_with_len}
-use Rattle.attempts.specs.declared.Unit.{Unit as Measure}
-use Rattle.attempts.specs.declared.Unit.TheVariants.{Time, Moves, Multi}
-use Rattle.attempts.specs.declared.Value.{Value}
-use Rattle.formats.specs.declared.events.Event.{Event}
-use Rattle.formats.specs.declared.events.Format.{Format}
-use Rattle.formats.specs.declared.results.Averaged.{Averaged}
+use Rattle.std.{proofs.Common.arith, specs.List.AllByRecursion, specs.List.range_with_len}
+use Rattle.std.proofs.lemmas.{Fmt.length-decimal-le, List.FromFn.length-range_with_len}
+use Rattle.attempts.specs.declared.{Unit.Unit as Measure, Unit.TheVariants.Time, Value.Value}
+use Rattle.formats.specs.declared.{events.Event.Event, results.Averaged.Averaged}
+use Rattle.formats.specs.{declared.events.Format.Format, Results.average_of, Results.average_text}
 use Rattle.formats.specs.Events.{event_name, format_name, attempts_of, unit_of}
-use Rattle.formats.specs.Results.{average_of, average_text}
 use Rattle.rounds.specs.Tables.{Entrant, Table, entrant, place, standings}
-use Rattle.texts.specs.declared.command.Command.{Command}
-use Rattle.texts.specs.declared.command.Settings.{Settings}
+use Rattle.texts.specs.declared.command.{Command.Command, Settings.Settings}
 use Rattle.commands.specs.Accepted.{name_of, seen_of}
 use Rattle.texts.specs.Spelling.{IsFitSettings, cutoff_text, limit_text, advance_text}
 use Rattle.texts.proofs.FieldSpellings.{event_short, format_short, cutoff_short, limit_short}
@@ -45,8 +38,7 @@ title_short event round format last =
     (append_short 88 1 (event_name event ++ codes " round " ++ decimal round) (codes " ")
     (append_short 87 1 (event_name event ++ codes " round ") (decimal round)
     (append_short 80 7 (event_name event) (codes " round ") (event_short event) (omega arith))
-    (length-decimal-le 1 round (omega arith) (omega arith) (omega arith)))
-    (omega arith))
+    (length-decimal-le 1 round (omega arith) (omega arith) (omega arith))) (omega arith))
     (format_short format)
 
 standing_short : (closed : Bool) (position : ℕ) → position < 2 ^ 32
@@ -57,8 +49,7 @@ standing_short closed position fits =
     (append_short 17 10 (codes " " ++ state_text closed ++ codes " position ") (decimal position)
     (append_short 7 10 (codes " " ++ state_text closed) (codes " position ")
     (append_short 1 6 (codes " ") (state_text closed) (omega arith) (state_short closed))
-    (omega arith))
-    (length-decimal-le 10 position (omega arith) (omega arith) (omega arith)))
+    (omega arith)) (length-decimal-le 10 position (omega arith) (omega arith) (omega arith)))
     (omega arith)
 
 second_short : (settings : Settings) → IsFitSettings settings → length (second_line settings) ≤ 264
@@ -74,13 +65,11 @@ second_short settings fits =
     (limit_short settings.limit fits.1)))
     (append_short 89 1 (codes " advance " ++ advance_text settings.advance) (codes "\n")
     (append_short 9 80 (codes " advance ") (advance_text settings.advance) (omega arith)
-    (advance_short settings.advance fits.2))
-    (omega arith))
+    (advance_short settings.advance fits.2)) (omega arith))
 
 narrow : (unit : Measure) → columns unit ≤ 15
 narrow Time = omega arith
-narrow Moves = omega arith
-narrow Multi = omega arith
+narrow _ = omega arith
 
 results_short : (unit : Measure) (at : ℕ) (average : Averaged) (vs : List Value) → at ≤ 1000
     → IsPlain 15 (average_text unit average) → IsPlain 15 (best_text unit vs)
@@ -88,26 +77,22 @@ results_short : (unit : Measure) (at : ℕ) (average : Averaged) (vs : List Valu
 results_short unit at average vs low is best =
     append_short 21 15 (right 3 (decimal at) ++ codes " "
     ++ right (columns unit) (average_text unit average) ++ codes " ")
-    (right (columns unit) (best_text unit vs))
-    (append_short 20 1 (right 3 (decimal at) ++ codes " "
+    (right (columns unit) (best_text unit vs)) (append_short 20 1 (right 3 (decimal at) ++ codes " "
     ++ right (columns unit) (average_text unit average)) (codes " ")
     (append_short 5 15 (right 3 (decimal at) ++ codes " ")
     (right (columns unit) (average_text unit average))
     (append_short 4 1 (right 3 (decimal at)) (codes " ") (right_short 3 4 (decimal at) (omega arith)
     (length-decimal-le 4 at (omega arith) (omega arith) (omega arith))) (omega arith))
     (right_short (columns unit) 15 (average_text unit average) (narrow unit) is.short))
-    (omega arith))
-    (right_short (columns unit) 15 (best_text unit vs) (narrow unit) best.short)
+    (omega arith)) (right_short (columns unit) 15 (best_text unit vs) (narrow unit) best.short)
 
 attempts_short : (unit : Measure) (format : Format) (vs : List Value)
     → AllByRecursion IsSmallValue vs → length (attempts unit (attempts_of format) vs) ≤ 80
 attempts_short unit format vs are =
     let all = each_short 16 (λ k. codes " " ++ right (columns unit) (attempt_text unit vs k))
     (λ k. append_short 1 15 (codes " ") (right (columns unit) (attempt_text unit vs k))
-    (omega arith)
-    (right_short (columns unit) 15 (attempt_text unit vs k) (narrow unit)
-    (plain_attempt unit vs are k).short))
-    (range_with_len 0 (attempts_of format)) in
+    (omega arith) (right_short (columns unit) 15 (attempt_text unit vs k) (narrow unit)
+    (plain_attempt unit vs are k).short)) (range_with_len 0 (attempts_of format)) in
     let count = length-range_with_len 0 (attempts_of format) in
     let few = at_most_five format in
     omega (arith, all, count, few)
@@ -122,9 +107,7 @@ person_short number marked name low short =
     (append_short 5 1 (codes " " ++ right 4 (decimal number)) (codes " ")
     (append_short 1 4 (codes " ") (right 4 (decimal number)) (omega arith)
     (right_short 4 4 (decimal number) (omega arith) (length-decimal-le 4 number (omega arith)
-    (omega arith) (omega arith))))
-    (omega arith))
-    (mark_short marked))
+    (omega arith) (omega arith)))) (omega arith)) (mark_short marked))
     (append_short 161 1 (codes " " ++ name) (codes "\n") (append_short 1 160 (codes " ") name
     (omega arith) short) (omega arith))
 
@@ -134,8 +117,7 @@ entrant_line_short : (unit : Measure) (settings : Settings) (t : Table) (marks :
 unfolding entrant_line
 entrant_line_short unit settings t marks number name e few short is =
     append_short 116 169 (results unit (place t e) (average_of t.format t.unit e.values) e.values
-    ++ attempts unit (attempts_of settings.format) e.values)
-    (person number (marks number) name)
+    ++ attempts unit (attempts_of settings.format) e.values) (person number (marks number) name)
     (append_short 36 80 (results unit (place t e) (average_of t.format t.unit e.values) e.values)
     (attempts unit (attempts_of settings.format) e.values)
     (results_short unit (place t e) (average_of t.format t.unit e.values) e.values
@@ -150,8 +132,7 @@ line_short : (unit : Measure) (cs : List Command) (settings : Settings) (t : Tab
     → length (line_of unit cs settings t marks n) ≤ 285
 line_short unit cs settings t marks small few are n = step (entrant t n) (shown t are n)
   where
-    step : (o : Option Entrant) → IfSome o (IsShown n)
-        → length
+    step : (o : Option Entrant) → IfSome o (IsShown n) → length
         (unwrap_or (option_map (entrant_line unit settings t marks n (name_text cs n)) o) []) ≤ 285
     step None is = omega arith
     step (Some e) is =

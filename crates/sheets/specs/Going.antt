@@ -5,12 +5,10 @@ use Rattle.std.specs.HashSet.{contains}
 use Rattle.formats.specs.declared.events.Event.{Event}
 use Rattle.rounds.specs.Tables.{Table, entrant}
 use Rattle.advancement.specs.Advancing.{holds_of, is_before}
-use Rattle.texts.specs.declared.command.Command.{Command}
-use Rattle.texts.specs.declared.command.Settings.{Settings}
+use Rattle.texts.specs.declared.command.{Command.Command, Settings.Settings}
 use Rattle.commands.specs.Accepted.{round_of, seen_of}
-use Rattle.sheets.specs.declared.going_on.AdvancingEntrants.{AdvancingEntrants}
+use Rattle.sheets.specs.{declared.going_on.AdvancingEntrants.AdvancingEntrants, Sheet.goes_through}
 use Rattle.sheets.specs.declared.going_on.AdvancingEntrants.TheVariants.{PlacedBefore, These}
-use Rattle.sheets.specs.Sheet.{goes_through}
 
 -- what is kept tells of a number in this table
 abbrev pub is_told : AdvancingEntrants → Table → ℕ → Bool

@@ -1,27 +1,20 @@
 -- The result sheet of a round, as a function of the accepted commands, the event, the round and the
 -- position. Its two forms are this project's own, in every edition.
-use Rattle.std.specs.Prelude.{ℕ, ◌-◌, Bool, true, false, ◌&&◌, List, [], ◌∷◌, ◌++◌, length}
-use Rattle.std.specs.Prelude.{replicate, map, flat_map, slice_get, unwrap_or, codes, decimal}
-use Rattle.std.specs.Prelude.{Option, None, Some}
-use Rattle.std.specs.List.{range_with_len}
-use Rattle.std.specs.Option.{option_map}
+use Rattle.std.specs.Prelude.{ℕ, ◌-◌, Bool, true, false, ◌&&◌, List, [], ◌∷◌, ◌++◌, length, Option}
+use Rattle.std.specs.Prelude.{replicate, map, flat_map, slice_get, unwrap_or, codes, decimal, None}
+use Rattle.std.specs.{Prelude.Some, List.range_with_len, Option.option_map}
 use Rattle.csv.specs.Writing.{row_text, default_writer}
-use Rattle.attempts.specs.declared.Value.{Value}
-use Rattle.attempts.specs.declared.Unit.{Unit as Measure}
+use Rattle.attempts.specs.{declared.Value.Value, declared.Unit.Unit as Measure, Texts.value_text}
 use Rattle.attempts.specs.declared.Unit.TheVariants.{Time, Moves, Multi}
-use Rattle.attempts.specs.Texts.{value_text}
-use Rattle.formats.specs.declared.events.Event.{Event}
-use Rattle.formats.specs.declared.events.Format.{Format}
+use Rattle.formats.specs.declared.events.{Event.Event, Format.Format}
 use Rattle.formats.specs.Events.{event_name, format_name, attempts_of, unit_of}
-use Rattle.formats.specs.declared.results.Averaged.{Averaged}
+use Rattle.formats.specs.declared.{results.Averaged.Averaged, styles.SheetStyle.SheetStyle as Style}
 use Rattle.formats.specs.Results.{best_of, average_of, average_text}
-use Rattle.texts.specs.declared.command.Command.{Command}
-use Rattle.texts.specs.declared.command.Settings.{Settings}
+use Rattle.texts.specs.declared.command.{Command.Command, Settings.Settings}
 use Rattle.advancement.specs.Advancing.{goes_on}
 use Rattle.texts.specs.Spelling.{cutoff_text, limit_text, advance_text}
 use Rattle.rounds.specs.Tables.{Entrant, Table, entrant, place, standings}
 use Rattle.commands.specs.Accepted.{name_of, round_of, seen_of}
-use Rattle.formats.specs.declared.styles.SheetStyle.{SheetStyle as Style}
 use Rattle.formats.specs.declared.styles.SheetStyle.TheVariants as style
 
 -- ---- what a sheet says of a round
@@ -160,8 +153,7 @@ unfoldable pub entrant_record : Measure → Settings → Table → (ℕ → Bool
     → List ℕ
 entrant_record unit settings t marks number name e =
     row_text default_writer (entrant_fields unit (attempts_of settings.format)
-    (place t e) number name (average_of t.format t.unit e.values) e.values
-    (marks number))
+    (place t e) number name (average_of t.format t.unit e.values) e.values (marks number))
 
 -- the record of the entrant with a number
 abbrev pub record_of : Measure → List Command → Settings → Table → (ℕ → Bool) → ℕ → List ℕ

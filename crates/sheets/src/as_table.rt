@@ -6,10 +6,9 @@ ghost use Rattle.csv.specs.Writing.{row_text, default_writer};
 ghost use Rattle.csv.specs.Records.{fields_of, partial_of};
 ghost use Rattle.formats.specs.Results.{best_of};
 ghost use Rattle.sheets.specs.Sheet.{attempt_text, yes_or_no, header, result_fields, table_sheet};
-ghost use Rattle.sheets.specs.Faults.{NoSheet};
+ghost use Rattle.sheets.specs.{Faults.NoSheet, model.Shown.table_shown};
 ghost use Rattle.sheets.specs.model.Output.{AddsFields, IsReady, Adds, held};
 ghost use Rattle.sheets.specs.model.Shown.{IsOpened, TellsShown, fields_shown, record_shown};
-ghost use Rattle.sheets.specs.model.Shown.{table_shown};
 
 use crate::shown::{
     SheetRound, attempt_text, best_text, decimal_text, is_marked, name_text, shown_round,

@@ -2,8 +2,7 @@
 
 ghost use Rattle.std.specs.Prelude.{◌≡◌, IfOk, nat_eq};
 ghost use Rattle.std.specs.HashSet.{IsFromIterResult};
-ghost use Rattle.rounds.specs.Rows.{IsRow};
-ghost use Rattle.rounds.specs.Tables.{Entrant, Table};
+ghost use Rattle.rounds.specs.{Rows.IsRow, Tables.Entrant, Tables.Table};
 ghost use Rattle.sheets.specs.Going.{TellsOf, is_told};
 
 use advancement::{border, is_through};

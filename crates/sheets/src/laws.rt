@@ -1,7 +1,6 @@
 //! What holds of every sheet.
 
-ghost use Rattle.sheets.specs.EditionLaw.{PrintsAsEarlier};
-ghost use Rattle.sheets.specs.FrameLaw.{FitsInAFrame};
+ghost use Rattle.sheets.specs.{EditionLaw.PrintsAsEarlier, FrameLaw.FitsInAFrame};
 
 /// A law: a sheet has at most 299,992 bytes, so that it fits into a frame of desks. It holds for
 /// every list of entries that a meet was given, every round that was opened, and every position

@@ -3,8 +3,7 @@
 ghost use Rattle.std.specs.Prelude.{◌≡◌, IfOk, IfSome, decimal, option_map};
 ghost use Rattle.formats.specs.Results.{best_of};
 ghost use Rattle.commands.specs.Accepted.{round_of};
-ghost use Rattle.rounds.specs.Rows.{IsRow};
-ghost use Rattle.rounds.specs.Tables.{Entrant};
+ghost use Rattle.rounds.specs.{Rows.IsRow, Tables.Entrant};
 ghost use Rattle.sheets.specs.Sheet.{best_text, attempt_text, name_text};
 ghost use Rattle.sheets.specs.model.Shown.{IsOpened, TellsShown, marks_shown};
 

@@ -1,8 +1,7 @@
 //! The sheet in the form that is asked for.
 
 ghost use Rattle.std.specs.Prelude.{◌≡◌, IfOk, IfErr, Some};
-ghost use Rattle.sheets.specs.Sheet.{sheet};
-ghost use Rattle.sheets.specs.Faults.{NoSheet};
+ghost use Rattle.sheets.specs.{Sheet.sheet, Faults.NoSheet};
 
 use crate::{SheetFault, SheetStyle, table, text};
 use commands::Meet;

@@ -1,15 +1,10 @@
 -- What a writer of JSON is given, one part after the other.
-use Rattle.std.proofs.Common.{◌≡◌, refl, sym, ap, ◌∙◌, List, [], ◌∷◌, ◌++◌, append_assoc}
-use Rattle.std.proofs.Common.{append-nil, Result, Ok, Err, OnOk, ℕ}
-use Rattle.json.specs.Json.{Json}
-use Rattle.json.specs.Print.{print}
-use Rattle.json.specs.Token.{Token}
-use Rattle.json.specs.Tree.{json_tokens}
+use Rattle.std.proofs.Common.{◌≡◌, sym, ap, subst, ◌∙◌, List, [], ◌∷◌, ◌++◌, append_assoc}
+use Rattle.std.proofs.Common.{Result, Ok, Err, OnOk, ℕ}
+use Rattle.json.specs.{Json.Json, Print.print, Token.Token, Tree.json_tokens, Tree.members_tokens}
 use Rattle.json.specs.Written.{Written, Writes}
-use Rattle.standings.specs.Written.{Adds}
-
-pub nothing : {w : Written} → Adds w w []
-nothing {w} = record { tokens = sym (append-nil w.tokens); before = refl }
+use Rattle.standings.specs.{AsJson.reply_members, Written.Adds}
+use Rattle.standings.specs.declared.polled.StatusReply.{StatusReply}
 
 -- one part and then another
 pub then : {a b c : Written} {ts us : List Token} → Adds a b ts → Adds b c us → Adds a c (ts ++ us)
@@ -41,9 +36,6 @@ pub record Leads (start now : Written) (left all : List Token) : Type 0 where
   pub tokens : now.tokens ++ left ≡ start.tokens ++ all
   pub before : now.before ≡ start.before
 
-pub begun : {w : Written} {all : List Token} → Leads w w all all
-begun = record { tokens = refl; before = refl }
-
 -- the first part of what is left is written
 pub one_more : {s a b : Written} {left all : List Token} (x rest : List Token)
     → left ≡ x ++ rest → Leads s a left all → Adds a b x → Leads s b rest all
@@ -63,6 +55,13 @@ whole {s} {a} {b} {left} {all} ts is h k =
       tokens = k.tokens ∙ ap (λ xs. a.tokens ++ xs) (sym is) ∙ h.tokens;
       before = k.before ∙ h.before;
     }
+
+-- the members of a reply, which was found to be this one
+pub replied : {T E : Type 0} (r : Result T E) (old new : Written) (reply this : StatusReply)
+    → reply ≡ this → OnOk r (Adds old new (members_tokens (reply_members this)))
+    → OnOk r (Adds old new (members_tokens (reply_members reply)))
+replied r old new reply this is =
+    subst (λ z. OnOk r (Adds old new (members_tokens (reply_members z)))) (sym is)
 
 pub same : {a b : Written} {ts us : List Token} → ts ≡ us → Adds a b ts → Adds a b us
 same {a} {b} {ts} {us} is h =

@@ -1,28 +1,21 @@
 -- How deep the JSON value of the desks' answers nests, and that its text reads back.
 use Rattle.std.proofs.Common.{◌≡◌, sym, ap, ◌∙◌, ℕ, suc, ◌≤◌, max, Bool, true, false, Option, Some}
 use Rattle.std.proofs.Common.{None, List, [], ◌∷◌, ◌++◌, map, flat_map, arith, append-nil}
-use Rattle.std.proofs.Common.{option_and_then}
+use Rattle.std.proofs.{Common.option_and_then, lemmas.Bool.Decides.nat_tests}
 use Rattle.std.specs.Prelude.{◌==◌, if◌then◌else◌}
-use Rattle.std.proofs.lemmas.Bool.Decides.{nat_tests}
 use Rattle.acceptor.specs.declared.ballot.Ballot.{Ballot}
 use Rattle.json.specs.Json.{Json, document, if_last, max_depth, value}
-use Rattle.json.specs.Lex.{tokens}
-use Rattle.json.specs.Print.{print}
+use Rattle.json.specs.{Lex.tokens, Print.print, Value.items_of, Written.Written}
 use Rattle.json.specs.Tree.{depth, items_depth, json_tokens, members_depth}
-use Rattle.json.specs.Value.{items_of}
-use Rattle.json.specs.Written.{Written}
 use Rattle.json.proofs.Printed.Trees.{value-json_tokens}
 use Rattle.standings.specs.AsJson.{difference_json, hall_json, lag_json, lag_of, natural}
 use Rattle.standings.specs.AsJson.{polled_json, promised_json, reply_members}
-use Rattle.standings.specs.Reports.{ReadsBack}
+use Rattle.standings.specs.{Reports.ReadsBack, Written.Adds}
 use Rattle.standings.specs.Standings.{behind_by, difference, every_desk}
-use Rattle.standings.specs.Written.{Adds}
-use Rattle.standings.specs.declared.polled.PolledDesk.{PolledDesk}
-use Rattle.standings.specs.declared.polled.StatusReply.{StatusReply}
-use Rattle.standings.specs.declared.polled.StatusReply.TheVariants as reply
-use Rattle.wire.specs.Spelling.{lengths_of}
-use Rattle.wire.specs.declared.standing.Difference.{Difference}
+use Rattle.standings.specs.declared.polled.{PolledDesk.PolledDesk, StatusReply.StatusReply}
+use Rattle.wire.specs.{Spelling.lengths_of, declared.standing.Difference.Difference}
 use Rattle.wire.specs.declared.standing.Difference.TheVariants.{OtherEntry, Shorter}
+use Rattle.standings.specs.declared.polled.StatusReply.TheVariants as reply
 
 both : (n a b : ℕ) → a ≤ n → b ≤ n → max a b ≤ n
 both n a b h k = grind (arith, nat_tests)
@@ -42,17 +35,9 @@ reply_depth (reply.Stands desk standing) =
     (items_depth (items_of (map natural (lengths_of standing.told))))
     (promised_depth standing.promised) (numbers_depth (lengths_of standing.told))
   where
-    go : (p t : ℕ) → p ≤ 1 → t ≤ 0
-        → max 0 (max 0 (max 0 (max 0 (max p (max (suc t) 0))))) ≤ 1
+    go : (p t : ℕ) → p ≤ 1 → t ≤ 0 → max 0 (max 0 (max 0 (max 0 (max p (max (suc t) 0))))) ≤ 1
     go p t h k = grind (arith, nat_tests)
-reply_depth (reply.Earlier desk) = omega arith
-reply_depth reply.CannotConnect = omega arith
-reply_depth reply.NoAnswer = omega arith
-reply_depth reply.Late = omega arith
-reply_depth reply.NoKey = omega arith
-reply_depth reply.OtherKey = omega arith
-reply_depth reply.HasKey = omega arith
-reply_depth (reply.Refused refusal) = omega arith
+reply_depth _ = omega arith
 
 polled_depth : (p : PolledDesk) → depth (polled_json p) ≤ 2
 polled_depth p = go (members_depth (reply_members p.reply)) (reply_depth p.reply)
@@ -91,8 +76,7 @@ hall_depth hall polled =
     (depth (difference_json (difference polled)))
     (desks_depth polled) (lags_depth polled every_desk) (difference_depth (difference polled))
   where
-    go : (d l x : ℕ) → d ≤ 2 → l ≤ 1 → x ≤ 1
-        → suc (max 0 (max (suc d)
+    go : (d l x : ℕ) → d ≤ 2 → l ≤ 1 → x ≤ 1 → suc (max 0 (max (suc d)
         (max 0 (max 0 (max 0 (max 0 (max (suc l) (max x (max 0 0))))))))) ≤ 128
     go d l x h k j = grind (arith, nat_tests)
 

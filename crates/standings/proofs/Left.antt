@@ -2,10 +2,8 @@
 use Rattle.std.proofs.Common.{◌≡◌, refl, sym, ap, ◌∙◌, ℕ, ◌+◌, ◌<◌, ◌≤◌, List, [], ◌∷◌, ◌++◌}
 use Rattle.std.proofs.Common.{length, drop, get_or, map, flat_map, append_assoc}
 use Rattle.std.proofs.lemmas.List.{drop_more, drop_all}
-use Rattle.json.specs.Token.{end_array}
-use Rattle.json.specs.Json.{Json}
+use Rattle.json.specs.{Token.end_array, Json.Json, Value.items_of}
 use Rattle.json.specs.Tree.{json_tokens, items_tokens}
-use Rattle.json.specs.Value.{items_of}
 
 -- the item at a place, read with whatever default
 at : {X : Type 0} (xs : List X) (i : ℕ) (x d : X) → i < length xs → x ≡ get_or xs i d
@@ -14,8 +12,7 @@ at xs i x d within is = drop_more xs i d within ∙ ap (λ y. y ∷ drop (i + 1)
 
 -- items made of a list
 pub items_left : {X : Type 0} (f : X → Json) (xs : List X) (i : ℕ) (x d : X) → i < length xs
-    → x ≡ get_or xs i d
-    → items_tokens (items_of (map f (drop i xs)))
+    → x ≡ get_or xs i d → items_tokens (items_of (map f (drop i xs)))
     ≡ json_tokens (f x) ++ items_tokens (items_of (map f (drop (i + 1) xs)))
 items_left f xs i x d within is =
     ap (λ ys. items_tokens (items_of (map f ys))) (at xs i x d within is)
@@ -29,8 +26,7 @@ items_tokens-append (x ∷ xs) ys =
     ∙ sym (append_assoc (json_tokens x) (flat_map json_tokens xs) (items_tokens (items_of ys)))
 
 pub lists_left : {X : Type 0} (f : X → List Json) (xs : List X) (i : ℕ) (x d : X) → i < length xs
-    → x ≡ get_or xs i d
-    → items_tokens (items_of (flat_map f (drop i xs)))
+    → x ≡ get_or xs i d → items_tokens (items_of (flat_map f (drop i xs)))
     ≡ flat_map json_tokens (f x) ++ items_tokens (items_of (flat_map f (drop (i + 1) xs)))
 lists_left f xs i x d within is =
     ap (λ ys. items_tokens (items_of (flat_map f ys))) (at xs i x d within is)

@@ -1,15 +1,11 @@
 -- The tokens of what the answers come to.
-use Rattle.std.proofs.Common.{◌≡◌, ◌<◌, ◌≤◌, ap, ◌∙◌, ℕ, Bool, List, ◌∷◌, codes, flat_map}
-use Rattle.std.proofs.Common.{Option, length, subst, sym}
-use Rattle.json.specs.Json.{boolean, member, no_members}
-use Rattle.json.specs.Token.{Token, begin_array}
-use Rattle.json.specs.Tree.{items_tokens, json_tokens, members_tokens}
-use Rattle.json.specs.Value.{items_of}
-use Rattle.standings.specs.AsJson.{difference_json, lag_of, lags_json, meaning_members}
-use Rattle.standings.specs.AsJson.{natural}
-use Rattle.standings.specs.AsText.{in_order as is_in_order}
+use Rattle.std.proofs.Common.{◌≡◌, ◌<◌, ◌≤◌, ap, refl, ℕ, Bool, List, ◌∷◌, codes, flat_map, Option}
+use Rattle.std.proofs.Common.{length, subst, sym}
+use Rattle.json.specs.{Json.boolean, Json.member, Token.Token, Token.begin_array, Value.items_of}
+use Rattle.json.specs.{Json.no_members, Tree.items_tokens, Tree.json_tokens, Tree.members_tokens}
+use Rattle.standings.specs.AsJson.{difference_json, lag_of, lags_json, meaning_members, natural}
+use Rattle.standings.specs.{AsText.in_order as is_in_order, Standings.status_of}
 use Rattle.standings.specs.Standings.{answered, difference, every_desk, is_majority, size_of}
-use Rattle.standings.specs.Standings.{status_of}
 use Rattle.wire.specs.declared.standing.Difference.{Difference}
 use Rattle.standings.specs.declared.polled.PolledDesk.{PolledDesk}
 
@@ -43,15 +39,4 @@ pub meaning_tokens : (polled : List PolledDesk) (size n : ℕ) (majority in_orde
     → tokens_with polled size n majority in_order differs status
     ≡ members_tokens (meaning_members polled)
 meaning_tokens polled size n majority in_order differs status hs hn hm ho hd ht =
-    ap (λ k. tokens_with polled k n majority in_order differs status) hs
-    ∙ ap (λ k. tokens_with polled (size_of polled) k majority in_order differs status) hn
-    ∙ ap (λ b. tokens_with polled (size_of polled) (answered polled) b in_order differs status) hm
-    ∙ ap
-    (λ b. tokens_with polled (size_of polled) (answered polled) (is_majority polled) b differs
-    status) ho
-    ∙ ap
-    (λ d. tokens_with polled (size_of polled) (answered polled) (is_majority polled)
-    (is_in_order polled) d status) hd
-    ∙ ap
-    (λ k. tokens_with polled (size_of polled) (answered polled) (is_majority polled)
-    (is_in_order polled) (difference polled) k) ht
+    rw (hs, hn, hm, ho, hd, ht) refl

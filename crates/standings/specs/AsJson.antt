@@ -1,20 +1,17 @@
 -- The answers of a hall's desks as a JSON value: an object with these members, in this order (the
 -- project's own).
-use Rattle.std.specs.Prelude.{ℕ, ◌==◌, List, [], ◌∷◌, Option, None, Some}
-use Rattle.std.specs.Prelude.{codes, decimal, flat_map, if◌then◌else◌, map}
+use Rattle.std.specs.Prelude.{ℕ, ◌==◌, List, [], ◌∷◌, Option, None, Some, codes, decimal, flat_map}
+use Rattle.std.specs.Prelude.{if◌then◌else◌, map}
 use Rattle.json.specs.Json.{Json, null, boolean, number, string, array, object, Members, no_members}
-use Rattle.json.specs.Json.{member}
-use Rattle.json.specs.Value.{items_of}
+use Rattle.json.specs.{Json.member, Value.items_of}
 use Rattle.acceptor.specs.declared.ballot.Ballot.{Ballot}
 use Rattle.client.specs.Printing.{refusal_name}
-use Rattle.wire.specs.Spelling.{lengths_of}
-use Rattle.wire.specs.declared.standing.Difference.{Difference}
+use Rattle.wire.specs.{Spelling.lengths_of, declared.standing.Difference.Difference}
 use Rattle.wire.specs.declared.standing.Difference.TheVariants.{OtherEntry, Shorter}
 use Rattle.standings.specs.AsText.{in_order, role_name}
-use Rattle.standings.specs.Standings.{answered, behind_by, every_desk, is_majority}
-use Rattle.standings.specs.Standings.{difference, size_of, status_of}
-use Rattle.standings.specs.declared.polled.PolledDesk.{PolledDesk}
-use Rattle.standings.specs.declared.polled.StatusReply.{StatusReply}
+use Rattle.standings.specs.Standings.{answered, behind_by, every_desk, is_majority, difference}
+use Rattle.standings.specs.Standings.{size_of, status_of}
+use Rattle.standings.specs.declared.polled.{PolledDesk.PolledDesk, StatusReply.StatusReply}
 use Rattle.standings.specs.declared.polled.StatusReply.TheVariants as reply
 
 abbrev pub natural : ℕ → Json
@@ -38,8 +35,7 @@ fault_members name = member (codes "fault") (string name) no_members
 -- what came of asking a desk: how it is, or why that isn't known
 abbrev pub reply_members : StatusReply → Members
 reply_members (reply.Stands desk standing) =
-    member (codes "desk") (natural desk)
-    (member (codes "role") (string (role_name standing.role))
+    member (codes "desk") (natural desk) (member (codes "role") (string (role_name standing.role))
     (member (codes "commands") (natural standing.length)
     (member (codes "waiting") (natural standing.waiting)
     (member (codes "promised") (promised_json standing.promised)

@@ -1,17 +1,14 @@
 -- What is printed of the answers of a hall's desks (the project's own).
-use Rattle.std.specs.Prelude.{ℕ, ◌==◌, Bool, true, false, not, List, [], ◌∷◌, ◌++◌}
-use Rattle.std.specs.Prelude.{codes, decimal, flat_map, if◌then◌else◌, Option, None, Some}
+use Rattle.std.specs.Prelude.{ℕ, ◌==◌, Bool, true, false, not, List, [], ◌∷◌, ◌++◌, codes, decimal}
+use Rattle.std.specs.Prelude.{flat_map, if◌then◌else◌, Option, None, Some}
 use Rattle.std.specs.List.{list_any}
 use Rattle.client.specs.Printing.{refusal_name}
-use Rattle.wire.specs.declared.values.DeskRole.{DeskRole}
+use Rattle.wire.specs.declared.{values.DeskRole.DeskRole, standing.Difference.Difference}
 use Rattle.wire.specs.declared.values.DeskRole.TheVariants.{Idle, Gathering, Proposing, Leading}
-use Rattle.wire.specs.declared.standing.Difference.{Difference}
 use Rattle.wire.specs.declared.standing.Difference.TheVariants.{OtherEntry, Shorter}
 use Rattle.standings.specs.Standings.{answered, behind_by, every_desk, is_majority, missing, newest}
-use Rattle.standings.specs.Standings.{difference}
-use Rattle.standings.specs.Standings.{size_of, some_behind, standing_count, unasked}
-use Rattle.standings.specs.declared.polled.PolledDesk.{PolledDesk}
-use Rattle.standings.specs.declared.polled.StatusReply.{StatusReply}
+use Rattle.standings.specs.Standings.{difference, size_of, some_behind, standing_count, unasked}
+use Rattle.standings.specs.declared.polled.{PolledDesk.PolledDesk, StatusReply.StatusReply}
 use Rattle.standings.specs.declared.polled.StatusReply.TheVariants as reply
 
 abbrev pub role_name : DeskRole → List ℕ

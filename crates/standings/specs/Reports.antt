@@ -1,13 +1,8 @@
 -- A report on a hall's desks, in either form (the project's own).
 use Rattle.std.specs.Prelude.{◌≡◌, ℕ, List, ◌++◌, Some, codes}
-use Rattle.json.specs.Json.{document}
-use Rattle.json.specs.Print.{print}
-use Rattle.json.specs.Tree.{json_tokens}
-use Rattle.standings.specs.AsJson.{hall_json}
-use Rattle.standings.specs.AsText.{text_of}
-use Rattle.standings.specs.declared.polled.PolledDesk.{PolledDesk}
-use Rattle.standings.specs.declared.forms.Form.{Form}
-use Rattle.standings.specs.declared.forms.Form.TheVariants.{Text, Json}
+use Rattle.json.specs.{Json.document, Print.print, Tree.json_tokens}
+use Rattle.standings.specs.{AsJson.hall_json, AsText.text_of, declared.polled.PolledDesk.PolledDesk}
+use Rattle.standings.specs.declared.forms.Form.{Form, TheVariants.Text, TheVariants.Json}
 
 -- the JSON value, without white space
 abbrev pub json_text : (hall : ℕ) → List PolledDesk → List ℕ

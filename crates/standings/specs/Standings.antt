@@ -1,15 +1,11 @@
 -- What the answers of a hall's desks come to (the project's own).
 use Rattle.std.specs.Prelude.{ℕ, ◌+◌, ◌-◌, ◌*◌, ◌/◌, ◌==◌, Bool, false, not, List, [], ◌∷◌}
-use Rattle.std.specs.Prelude.{count_by, fold, if◌then◌else◌, length, map, max, nat_lt, ◌||◌}
-use Rattle.std.specs.Prelude.{Option, None, Some, is_some}
-use Rattle.std.specs.List.{list_any}
-use Rattle.wire.specs.declared.standing.Difference.{Difference}
-use Rattle.wire.specs.declared.standing.Difference.TheVariants.{OtherEntry}
-use Rattle.wire.specs.declared.standing.Lengths.{Lengths}
-use Rattle.wire.specs.declared.standing.Lengths.TheVariants.{OfThree, OfFive}
+use Rattle.std.specs.Prelude.{count_by, fold, if◌then◌else◌, length, map, max, nat_lt, ◌||◌, Option}
+use Rattle.std.specs.{Prelude.None, Prelude.Some, Prelude.is_some, List.list_any}
+use Rattle.wire.specs.declared.standing.Difference.{Difference, TheVariants.OtherEntry}
+use Rattle.wire.specs.declared.standing.Lengths.{Lengths, TheVariants.OfThree, TheVariants.OfFive}
 use Rattle.wire.specs.Spelling.{lengths_of}
-use Rattle.standings.specs.declared.polled.PolledDesk.{PolledDesk}
-use Rattle.standings.specs.declared.polled.StatusReply.{StatusReply}
+use Rattle.standings.specs.declared.polled.{PolledDesk.PolledDesk, StatusReply.StatusReply}
 use Rattle.standings.specs.declared.polled.StatusReply.TheVariants.{Stands, Earlier}
 
 -- the numbers that a desk can have

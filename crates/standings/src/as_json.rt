@@ -1,17 +1,14 @@
 //! What is printed of the answers of a hall's desks, as JSON.
 
 ghost use Rattle.std.specs.Prelude.{◌≡◌, ◌≤◌, IfOk, OnOk, flat_map, length};
-ghost use Rattle.json.specs.Json.{string};
-ghost use Rattle.json.specs.Tree.{json_tokens, members_tokens};
+ghost use Rattle.json.specs.{Json.string, Tree.json_tokens, Tree.members_tokens};
 ghost use Rattle.client.specs.Printing.{refusal_name};
 ghost use Rattle.wire.specs.Spelling.{lengths_of};
-ghost use Rattle.standings.specs.AsJson.{difference_json, differs_json, other_json};
-ghost use Rattle.standings.specs.AsJson.{fault_members, hall_json, lag_json, lag_of, lags_json};
-ghost use Rattle.standings.specs.AsJson.{list_of, meaning_members, natural, polled_json};
-ghost use Rattle.standings.specs.AsJson.{promised_json, reply_members};
-ghost use Rattle.standings.specs.AsText.{role_name};
+ghost use Rattle.standings.specs.AsJson.{difference_json, differs_json, other_json, fault_members};
+ghost use Rattle.standings.specs.AsJson.{hall_json, lag_json, lag_of, lags_json, list_of};
+ghost use Rattle.standings.specs.AsJson.{meaning_members, natural, polled_json, promised_json};
+ghost use Rattle.standings.specs.{AsJson.reply_members, AsText.role_name, Written.Adds};
 ghost use Rattle.standings.specs.Reports.{ReadsBack, json_line, json_text};
-ghost use Rattle.standings.specs.Written.{Adds};
 ghost use Rattle.standings.specs.declared.polled.StatusReply.TheVariants as reply;
 
 use crate::as_text::{in_order, role_name};

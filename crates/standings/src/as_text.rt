@@ -2,14 +2,12 @@
 
 ghost use Rattle.std.specs.Prelude.{◌≡◌, ◌≤◌, ◌++◌, IfOk, OnOk, decimal, flat_map, length};
 ghost use Rattle.standings.specs.AsText.{all_stand_text, all_text, commands_text, count_text};
-ghost use Rattle.standings.specs.AsText.{every_lag_text};
-ghost use Rattle.standings.specs.AsText.{works_text, going_text, in_order, is_other, lag_text};
-ghost use Rattle.standings.specs.AsText.{lags_text, line_text};
-ghost use Rattle.standings.specs.AsText.{more_text, name_text, order_text, place_text, reply_text};
-ghost use Rattle.standings.specs.AsText.{text_of, role_name, some_elsewhere, some_stand_text};
-ghost use Rattle.standings.specs.AsText.{state_text, unasked_text, verb_text, waiting_text};
-ghost use Rattle.standings.specs.AsText.{difference_text, differs_text, other_text, shorter_text};
-ghost use Rattle.standings.specs.AsText.{wanted_text};
+ghost use Rattle.standings.specs.AsText.{every_lag_text, works_text, going_text, in_order};
+ghost use Rattle.standings.specs.AsText.{is_other, lag_text, lags_text, line_text, more_text};
+ghost use Rattle.standings.specs.AsText.{name_text, order_text, place_text, reply_text, text_of};
+ghost use Rattle.standings.specs.AsText.{role_name, some_elsewhere, some_stand_text, state_text};
+ghost use Rattle.standings.specs.AsText.{unasked_text, verb_text, waiting_text, difference_text};
+ghost use Rattle.standings.specs.AsText.{differs_text, other_text, shorter_text, wanted_text};
 ghost use Rattle.standings.specs.declared.polled.StatusReply.TheVariants as reply;
 
 use crate::meaning::{
@@ -261,7 +259,8 @@ fn push_works(out: &mut Vec<u8>, polled: &[PolledDesk<'_>]) -> Result<(), AllocE
     ensures { OnOk result (out.new.items ≡ out.old.items ++ works_text polled.now) }
 {
     out.extend_from_slice(b"the hall works")?;
-    push_every_lag(out, true, polled)
+    push_every_lag(out, true, polled)?;
+    Ok(())
 }
 
 /// Adds what it means where a majority answered, and not each said how it is.

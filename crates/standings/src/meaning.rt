@@ -1,12 +1,11 @@
 //! What the answers of a hall's desks come to.
 
-ghost use Rattle.std.specs.Prelude.{◌≡◌, ◌≤◌, length, map};
+ghost use Rattle.std.specs.Prelude.{◌≡◌, ◌≤◌, length};
 ghost use Rattle.standings.specs.Standings.{answered, answers, behind_by, desks_told, every_desk};
-ghost use Rattle.standings.specs.Standings.{difference, difference_by};
-ghost use Rattle.standings.specs.Standings.{greatest, is_behind, is_from, is_majority, length_as};
-ghost use Rattle.standings.specs.Standings.{length_at, missing, most_told, newest, newest_told};
-ghost use Rattle.standings.specs.Standings.{size_of, some_behind, standing_count, stands};
-ghost use Rattle.standings.specs.Standings.{stands_as, status_of, unasked};
+ghost use Rattle.standings.specs.Standings.{difference, difference_by, greatest, is_behind};
+ghost use Rattle.standings.specs.Standings.{is_from, is_majority, length_as, length_at, missing};
+ghost use Rattle.standings.specs.Standings.{most_told, newest, newest_told, size_of, some_behind};
+ghost use Rattle.standings.specs.Standings.{standing_count, stands, stands_as, status_of, unasked};
 
 use crate::polled::{PolledDesk, StatusReply};
 use wire::{Difference, Lengths};

@@ -1,35 +1,22 @@
 -- What each change leaves inside a transaction.
 use Rattle.std.proofs.Common.{◌≡◌, inl, inr, ℕ, List, [], ◌∷◌, ◌++◌, length, Some, None, Ok, Err}
 use Rattle.std.proofs.Common.{Result, ◌∙◌, ap, sym, map, subst, IsPermutation}
-use Rattle.sqlite.specs.Order.{Row}
-use Rattle.sqlite.specs.declared.error.Error.{Error}
-use Rattle.sqlite.specs.Command.{Command}
-use Rattle.sqlite.specs.Command.TheVariants.{Insert}
-use Rattle.sqlite.specs.Source.TheVariants.{Values}
-use Rattle.sqlite.specs.Does.{Does}
-use Rattle.sqlite.specs.Effect.{Database}
-use Rattle.sqlite.specs.Listing.{understood}
-use Rattle.sqlite.specs.Table.{Table}
+use Rattle.sqlite.specs.{Order.Row, declared.error.Error.Error, Source.TheVariants.Values}
+use Rattle.sqlite.specs.Command.{Command, TheVariants.Insert}
+use Rattle.sqlite.specs.{Does.Does, Effect.Database, Listing.understood, Table.Table}
 use Rattle.sqlite.specs.State.{State, mode_of, Runs, Writes, ExecutesInside}
 use Rattle.sqlite.proofs.Callers.{IsPlain, command_of, statement_of, runs_as}
-use Rattle.sqlite_schema.specs.declared.schema.Index.{Index}
-use Rattle.sqlite_schema.specs.declared.schema.View.{View}
-use Rattle.acceptor.specs.declared.entry.Entry.{Entry}
-use Rattle.acceptor.specs.declared.ballot.Ballot.{Ballot}
-use Rattle.acceptor.specs.declared.stored.Vote.{Vote}
-use Rattle.acceptor.specs.declared.stored.Stored.{Stored}
+use Rattle.sqlite_schema.specs.declared.schema.{Index.Index, View.View}
+use Rattle.acceptor.specs.declared.{entry.Entry.Entry, ballot.Ballot.Ballot, stored.Vote.Vote}
+use Rattle.acceptor.specs.{declared.stored.Stored.Stored, Storing.stored_after}
 use Rattle.acceptor.specs.declared.stored.Change.TheVariants.{Promised, Voted, Tried}
-use Rattle.acceptor.specs.Storing.{stored_after}
-use Rattle.store.specs.declared.home.Home.{Home}
-use Rattle.store.specs.Layout.{store_schema}
+use Rattle.store.specs.{declared.home.Home.Home, Layout.store_schema, Inside.Inside, Inside.GoesOn}
 use Rattle.store.specs.Holding.{shown_desk, shown_entry, log_values}
-use Rattle.store.specs.Inside.{Inside, GoesOn}
 use Rattle.store.proofs.SqlTexts.{promise_text, vote_text, try_text, append_text}
 use Rattle.store.proofs.Texts.{updates, promise_is, promise_plain, promise_terms, vote_is}
 use Rattle.store.proofs.Texts.{vote_plain, vote_terms, try_is, try_plain, try_terms, append_is}
-use Rattle.store.proofs.Texts.{append_plain, append_terms}
+use Rattle.store.proofs.{Texts.append_plain, Texts.append_terms, Saving.update_makes, Saving.Makes}
 use Rattle.store.proofs.Rewriting.{promises, promise_params, votes, vote_params, tries, try_params}
-use Rattle.store.proofs.Saving.{update_makes, Makes}
 use Rattle.store.proofs.Inserting.{append_params, appends, inserted}
 
 module _ (sql : List ℕ) (params : Row) (command : Command)
@@ -56,8 +43,7 @@ module _ (sql : List ℕ) (params : Row) (command : Command)
         let all =
         makes old.step_limit (mode_of old) old.now ours k.holds
         (statement_of sql (understood (store_schema ours.others ours.indexes ours.views) sql))
-        w.tally
-        new.now w.changed in (
+        w.tally new.now w.changed in (
           record {
             is_open = ran.1.is_open;
             mode = ran.1.mode;
@@ -89,8 +75,7 @@ module _ (past : Database) (old new : State) (r : Result ℕ Error) (home : Home
       s (record s { promised = v.ballot; vote = Some v }) log log
       (update_makes (vote_params v) vote_terms home s
       (record s { promised = v.ballot; vote = Some v }) log
-      (λ trees row one shows. votes trees row home s one shows v))
-      (λ _ _ _ _ w. w) past old new k r
+      (λ trees row one shows. votes trees row home s one shows v)) (λ _ _ _ _ w. w) past old new k r
 
   pub try_goes_on : (n : ℕ) → ExecutesInside 0 try_text (try_params n) old new r
       → GoesOn home (stored_after s (Some (Tried n))) log past new r
@@ -98,19 +83,15 @@ module _ (past : Database) (old new : State) (r : Result ℕ Error) (home : Home
       goes_on try_text (try_params n) (updates try_terms) try_is try_plain home
       s (record s { tried = n }) log log
       (update_makes (try_params n) try_terms home s (record s { tried = n }) log
-      (λ trees row one shows. tries trees row home s one shows n))
-      (λ _ _ _ _ w. w) past old new k r
+      (λ trees row one shows. tries trees row home s one shows n)) (λ _ _ _ _ w. w) past old new k r
 
 append_makes : (at : ℕ) (e : Entry) (home : Home) (s : Stored) (log : List Entry) → at ≡ length log
     → Makes (Insert 1 (Values append_terms 4)) (append_params at e) home s s log (log ++ e ∷ [])
 append_makes at e home s log last limit mode db ours holds text tally after does =
     let all = inserted ours.others ours.indexes ours.views ours.unkeyed at e limit mode db.trees
-    text tally after
-    (subst
-    (λ sch.
+    text tally after (subst (λ sch.
     Does limit mode (append_params at e) (record { schema = sch; trees = db.trees }) text None
-    (Insert 1 (Values append_terms 4)) (Ok (tally, after)))
-    ours.is does) in (
+    (Insert 1 (Values append_terms 4)) (Ok (tally, after))) ours.is does) in (
       record {
         others = ours.others;
         indexes = ours.indexes;

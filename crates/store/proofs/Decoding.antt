@@ -1,21 +1,16 @@
 -- One more entry is read.
-use Rattle.std.proofs.Common.{◌≡◌, ℕ, pos, ◌+◌, ◌<◌, ◌≤◌, List, [], ◌∷◌, ◌++◌, map, take, length}
-use Rattle.std.proofs.Common.{get_or, subst₂, IsPermutation, refl, sym, ap, ◌∙◌, arith, zero-add}
-use Rattle.std.proofs.Common.{◌≢◌, length-append}
-use Rattle.std.proofs.lemmas.List.{map-append, take_more}
+use Rattle.std.proofs.Common.{◌≡◌, pos, ◌+◌, ◌<◌, ◌≤◌, List, [], ◌∷◌, ◌++◌, map, ◌≢◌, length-append}
+use Rattle.std.proofs.Common.{ℕ, get_or, subst₂, IsPermutation, refl, sym, ap, ◌∙◌, arith, zero-add}
+use Rattle.std.proofs.{Common.take, Common.length, lemmas.List.map-append, lemmas.List.take_more}
 use Rattle.sqlite.specs.declared.types.Value.TheVariants.{Int, Blob}
-use Rattle.sqlite.specs.Order.{Row, column}
+use Rattle.sqlite.{specs.Order.Row, specs.Order.column, proofs.Callers.one_permutation}
 use Rattle.sqlite_trees.proofs.ListLemmas.{all-append}
 use Rattle.acceptor.specs.Entries.{IsId, IsText}
-use Rattle.store.specs.Whole.{LogIsWhole}
-use Rattle.acceptor.specs.declared.entry.Entry.{Entry}
+use Rattle.store.specs.{Whole.LogIsWhole, Holding.desk_values, declared.home.Home.Home}
+use Rattle.acceptor.specs.declared.{entry.Entry.Entry, stored.Stored.Stored}
 use Rattle.store.specs.Holding.{entry_values, log_values, entry_columns, shown_entry, shown_desk}
-use Rattle.store.specs.Holding.{desk_values, desk_columns}
+use Rattle.store.{specs.Holding.desk_columns, proofs.Inserting.log_append}
 use Rattle.std.proofs.lemmas.List.Sorted.{IsPermutation-map, IsPermutation-sym}
-use Rattle.sqlite.proofs.Callers.{one_permutation}
-use Rattle.acceptor.specs.declared.stored.Stored.{Stored}
-use Rattle.store.specs.declared.home.Home.{Home}
-use Rattle.store.proofs.Inserting.{log_append}
 
 pub grows : (rows : List Row) (i : ℕ) (here : Row) (log : List Entry) (e : Entry) (at : ℕ)
     → i < length rows → here ≡ get_or rows i here

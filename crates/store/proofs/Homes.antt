@@ -1,10 +1,8 @@
 -- The two ways to say that a desk is one of a hall of 3 or 5, and its first state.
 use Rattle.std.proofs.Common.{◌≡◌, ◌⊎◌, refl, inl, inr, true, ◌<◌, ◌^◌, [], arith}
 use Rattle.std.proofs.lemmas.Bool.Decides.{nat_tests}
-use Rattle.store.specs.declared.home.Home.{Home}
+use Rattle.store.specs.{declared.home.Home.Home, Ranges.IsHome, Ranges.is_housed, Whole.IsSound}
 use Rattle.acceptor.specs.Storing.{first_stored}
-use Rattle.store.specs.Ranges.{IsHome, is_housed}
-use Rattle.store.specs.Whole.{IsSound}
 
 pub to_home : (h : Home) → is_housed h ≡ true → IsHome h
 to_home h e = record { desks = desks; desk = (grind (arith, nat_tests), grind (arith, nat_tests)) }

@@ -2,35 +2,24 @@
 use Rattle.std.proofs.Common.{◌≡◌, ℕ, pos, ◌+◌, List, [], ◌∷◌, ◌++◌, map, length, Bool, true, false}
 use Rattle.std.proofs.Common.{not, ◌&&◌, IsPermutation, subst₂, Option, None, Ok, refl, sym, ap}
 use Rattle.std.proofs.Common.{subst, ◌∙◌, arith, add-zero, zero-add}
-use Rattle.std.specs.declared.cmp.Ordering.{Ordering}
+use Rattle.std.specs.{declared.cmp.Ordering.Ordering, Ordering.match_ordering}
 use Rattle.std.specs.declared.cmp.Ordering.TheVariants.{Less, Equal, Greater}
-use Rattle.std.specs.Ordering.{match_ordering}
 use Rattle.std.proofs.lemmas.List.Sorted.{IsPermutation-refl, IsPermutation-trans}
 use Rattle.std.proofs.lemmas.List.Sorted.{IsPermutation-middle, IsPermutation-cons}
 use Rattle.std.proofs.lemmas.List.Sorted.{IsPermutation-to_front, IsPermutation-map}
 use Rattle.sqlite.specs.declared.types.Value.TheVariants.{Null, Int, Blob}
-use Rattle.sqlite.specs.Order.{Row, value_cmp}
-use Rattle.sqlite.specs.Table.{Table}
-use Rattle.sqlite_schema.specs.declared.schema.Index.{Index}
-use Rattle.sqlite_schema.specs.declared.schema.View.{View}
-use Rattle.sqlite.specs.Cast.{cast_row}
+use Rattle.sqlite.specs.{Order.Row, Order.value_cmp, Tree.Trees, Tree.put_row, Tree.rowid}
+use Rattle.sqlite.specs.{Table.Table, Cast.cast_row, Edit.left_by, Rowids.TheVariants.Chosen}
+use Rattle.sqlite_schema.specs.declared.schema.{Index.Index, View.View}
 use Rattle.sqlite.specs.Edit.{Edit, edit_of, edited, taken_by, with_rowid, is_taken, are_fresh}
-use Rattle.sqlite.specs.Edit.{left_by}
-use Rattle.sqlite.specs.Rowids.TheVariants.{Chosen}
-use Rattle.sqlite.specs.Command.TheVariants.{Insert}
-use Rattle.sqlite.specs.Source.TheVariants.{Values}
-use Rattle.sqlite.specs.Does.{Tally, Does}
-use Rattle.sqlite.specs.declared.run.Mode.{Mode}
-use Rattle.sqlite.specs.Rows.{Written}
-use Rattle.sqlite.specs.Tree.{Trees, put_row, rowid}
-use Rattle.sqlite.specs.Effect.{Database}
+use Rattle.sqlite.specs.{Command.TheVariants.Insert, Source.TheVariants.Values, Rows.Written}
+use Rattle.sqlite.specs.{Does.Tally, Does.Does, declared.run.Mode.Mode, Effect.Database}
 use Rattle.sqlite.proofs.Callers.{one_step}
 use Rattle.acceptor.specs.declared.entry.Entry.{Entry}
 use Rattle.store.specs.Layout.{entries_table, store_schema, HasNoKey}
 use Rattle.store.specs.Holding.{entry_values, log_values, shown_entry}
-use Rattle.store.proofs.Texts.{append_terms}
+use Rattle.store.proofs.{Texts.append_terms, Rewriting.cast_int, Rewriting.cast_null}
 use Rattle.store.proofs.Updating.{went, same_value, idle}
-use Rattle.store.proofs.Rewriting.{cast_int, cast_null}
 
 abbrev pub append_params : ℕ → Entry → Row
 append_params at e = Int (pos at) ∷ Int (pos e.id) ∷ Blob e.text ∷ []
@@ -46,8 +35,7 @@ put_somewhere new [] free = IsPermutation-refl (new ∷ [])
 put_somewhere new (r ∷ rs) free = go (put_somewhere new rs) (value_cmp (rowid r) (rowid new)) refl
   where
     go : (is_taken rs new ≡ false → IsPermutation (new ∷ rs) (put_row new rs)) → (o : Ordering)
-        → value_cmp (rowid r) (rowid new) ≡ o
-        → IsPermutation (new ∷ r ∷ rs)
+        → value_cmp (rowid r) (rowid new) ≡ o → IsPermutation (new ∷ r ∷ rs)
         (match_ordering o (r ∷ put_row new rs) (new ∷ rs) (new ∷ r ∷ rs))
     go later_on Less is =
         let later : is_taken rs new ≡ false = rw is at free in
@@ -62,8 +50,7 @@ log_append at [] e = ap (λ n. entry_values n e ∷ []) (sym (add-zero at))
 log_append at (x ∷ more) e =
     let same : at + 1 + length more ≡ at + length (x ∷ more) = omega arith in
     ap (λ rows. entry_values at x ∷ rows) (log_append (at + 1) more e)
-    ∙ ap (λ (n : ℕ). entry_values at x ∷ (log_values (at + 1) more ++ entry_values n e ∷ []))
-    same
+    ∙ ap (λ (n : ℕ). entry_values at x ∷ (log_values (at + 1) more ++ entry_values n e ∷ [])) same
 
 cast_entry : (at : ℕ) (e : Entry) → cast_row (entries_table 1) (entry_row at e) ≡ entry_row at e
 cast_entry at e = simp (cast_int, cast_null)
@@ -100,8 +87,7 @@ appends trees log at e rows last fresh =
 
 module _ (others : List Table) (ix : List Index) (vs : List View) (unkeyed : HasNoKey others)
     (at : ℕ) (e : Entry) (limit : Option ℕ) (mode : Mode) (trees : Trees)
-    (text : List ℕ) (tally : Tally) (after : Database)
-    (does : Does limit mode (append_params at e)
+    (text : List ℕ) (tally : Tally) (after : Database) (does : Does limit mode (append_params at e)
     (record { schema = store_schema others ix vs; trees = trees }) text None
     (Insert 1 (Values append_terms 4)) (Ok (tally, after)))
   where
@@ -121,8 +107,7 @@ module _ (others : List Table) (ix : List Index) (vs : List View) (unkeyed : Has
         let edit = edit_of trees (entries_table 1) [] Chosen 0 given.0 in
         let applied = one_step (store_schema others ix vs) mode.keys trees written.0 edit
         (idle (store_schema others ix vs) mode.keys 0 1 (taken_by trees edit) edit.news others
-        unkeyed)
-        written.1 in
+        unkeyed) written.1 in
         let is : edit ≡ appended trees at e =
         ap (λ (rs : List Row). edit_of trees (entries_table 1) [] Chosen 0 rs) rows in (
           ap (λ (d : Database). d.schema) now,

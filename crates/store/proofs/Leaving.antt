@@ -1,11 +1,8 @@
 -- What a keeper keeps is what an opening finds, whatever a save answered.
 use Rattle.std.proofs.Common.{List, Result, Ok, Err}
-use Rattle.acceptor.specs.declared.entry.Entry.{Entry}
-use Rattle.acceptor.specs.declared.stored.Stored.{Stored}
-use Rattle.acceptor.specs.declared.stored.Change.{Change}
-use Rattle.store.specs.declared.fault.SaveFault.{SaveFault}
+use Rattle.acceptor.specs.declared.{entry.Entry.Entry, stored.Stored.Stored, stored.Change.Change}
+use Rattle.store.specs.{declared.fault.SaveFault.SaveFault, Keeping.HoldsOnly, Keeping.Leaves}
 use Rattle.store.specs.declared.fault.SaveFault.TheVariants.{Device, NoMemory, Down}
-use Rattle.store.specs.Keeping.{HoldsOnly, Leaves}
 
 module _ (keeps may_hold : Stored → List Entry → Type 0) (may_break : Type 0) (s : Stored)
     (log : List Entry) (change : Change) where

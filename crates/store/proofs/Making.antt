@@ -1,32 +1,22 @@
 -- What the three statements that make a store leave.
 use Rattle.std.proofs.Common.{◌≡◌, ℕ, pos, [], ◌∷◌, map, IsPermutation, false, None, Ok, refl, sym}
 use Rattle.std.proofs.Common.{ap, subst, ◌∙◌, arith}
-use Rattle.sqlite.specs.declared.types.Value.TheVariants.{Int}
-use Rattle.sqlite.specs.Order.{Row}
-use Rattle.sqlite.specs.Tree.{Trees}
-use Rattle.sqlite.specs.Term.{eval_all}
+use Rattle.sqlite.specs.{declared.types.Value.TheVariants.Int, Order.Row, Tree.Trees, Term.eval_all}
 use Rattle.sqlite.specs.Command.TheVariants.{Insert, CreateTable}
-use Rattle.sqlite.specs.Source.TheVariants.{Values}
-use Rattle.sqlite.specs.Change.{created, next_tree}
-use Rattle.sqlite.specs.Cast.{cast_row}
-use Rattle.sqlite.specs.Edit.{Edit, edit_of, edited}
-use Rattle.sqlite.specs.Rowids.TheVariants.{Chosen}
-use Rattle.sqlite.specs.Does.{Tally, Does, lacks_sequence}
-use Rattle.sqlite.specs.Rows.{Written}
-use Rattle.sqlite.specs.Effect.{Database}
+use Rattle.sqlite.specs.{Source.TheVariants.Values, Cast.cast_row, Rowids.TheVariants.Chosen}
+use Rattle.sqlite.specs.{Change.created, Change.next_tree, Edit.Edit, Rows.Written, Effect.Database}
+use Rattle.sqlite.specs.{Edit.edit_of, Edit.edited, Does.Tally, Does.Does, Does.lacks_sequence}
 use Rattle.sqlite.specs.State.{State, mode_of, Writes, Executes, Shows}
 use Rattle.sqlite.proofs.Callers.{runs_as, one_step}
-use Rattle.store.specs.declared.home.Home.{Home}
+use Rattle.store.specs.{declared.home.Home.Home, Kept.Keeps}
 use Rattle.store.specs.Layout.{desk_table, entries_table, store_schema, no_schema}
 use Rattle.store.specs.Holding.{desk_values, shown_desk, shown_entry, Holds}
 use Rattle.acceptor.specs.Storing.{first_stored}
-use Rattle.store.specs.Kept.{Keeps}
 use Rattle.std.proofs.lemmas.List.Sorted.{IsPermutation-refl}
 use Rattle.store.proofs.SqlTexts.{create_desk_text, create_entries_text, first_text}
 use Rattle.store.proofs.Texts.{half_schema, create_desk_is, create_entries_is, make_desk_is}
 use Rattle.store.proofs.Texts.{make_desk_plain, make_entries_is, make_entries_plain, first_is}
-use Rattle.store.proofs.Texts.{first_plain, first_terms}
-use Rattle.store.proofs.Updating.{went, same_value}
+use Rattle.store.proofs.{Texts.first_plain, Texts.first_terms, Updating.went, Updating.same_value}
 use Rattle.store.proofs.Rewriting.{cast_int, cast_null}
 
 abbrev pub first_params : Home → Row
@@ -83,8 +73,7 @@ makes_entries old new count has bare h =
           ∙ subst (λ s. first.0.trees (next_tree s) ≡ []) has made.empty,
     )
 
-cast_first : (home : Home)
-    → cast_row (desk_table 0) (eval_all first_terms (first_params home ∷ []))
+cast_first : (home : Home) → cast_row (desk_table 0) (eval_all first_terms (first_params home ∷ []))
     ≡ eval_all first_terms (first_params home ∷ [])
 cast_first home = simp (cast_int, cast_null)
 
@@ -106,12 +95,9 @@ fills old new home count has bare h =
     Rattle.sqlite.proofs.Callers.statement_of first_text
     (Rattle.sqlite.specs.Listing.understood schema first_text) in
     let done =
-    went
-    (subst
-    (λ s.
+    went (subst (λ s.
     Does old.step_limit (mode_of old) params (record old.now { schema = s }) text None command
-    (Ok (w.tally, new.now)))
-    has w.changed) in
+    (Ok (w.tally, new.now))) has w.changed) in
     let now = ap (λ (p : Tally × Database). p.1) (same_value (went (went done.2).2).2) in
     let given = went done.1 in
     let written = went (went given.2).2 in
@@ -124,11 +110,9 @@ fills old new home count has bare h =
     refl written.1 in
     let edit : edited db (edit_of db (desk_table 0) [] Chosen 0 given.0) ≡ row ∷ [] =
     ap (λ all. edited db (edit_of db (desk_table 0) [] Chosen 0 all)) given.1.1
-    ∙ ap
-    (λ r.
+    ∙ ap (λ r.
     Rattle.sqlite.specs.Edit.put_all (db 0)
-    (Rattle.sqlite.specs.Edit.with_rowid Chosen (db 0) r ∷ []))
-    (cast_first home)
+    (Rattle.sqlite.specs.Edit.with_rowid Chosen (db 0) r ∷ [])) (cast_first home)
     ∙ rw bare refl in (
       ap (λ (d : Database). d.schema) now,
       ap (λ (d : Database). map shown_desk (d.trees 0)) now

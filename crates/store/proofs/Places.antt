@@ -3,23 +3,17 @@ use Rattle.std.proofs.Common.{◌≡◌, ℕ, zero, suc, pos, ◌+◌, ◌<◌, 
 use Rattle.std.proofs.Common.{length, get_or, slice_get, Option, Some, None, refl, sym, ap, ap₂}
 use Rattle.std.proofs.Common.{subst, ◌∙◌, arith, add-zero, zero-add, int_cmp, take, length-take-le}
 use Rattle.std.proofs.Common.{◌^◌, IsPermutation, IsSorted}
-use Rattle.std.specs.List.{AllByRecursion}
-use Rattle.std.specs.declared.cmp.Ordering.{Ordering}
-use Rattle.std.specs.declared.cmp.Ordering.TheVariants.{Less, Equal, Greater}
+use Rattle.std.specs.{List.AllByRecursion, Cmp.on_total, Cmp.nat_cmp_total}
+use Rattle.std.specs.declared.cmp.Ordering.{Ordering, TheVariants.Less, TheVariants.Equal}
 use Rattle.std.specs.Ordering.{nat_cmp, on, is_lt, ordering_then}
-use Rattle.std.specs.Cmp.{on_total, nat_cmp_total}
-use Rattle.std.proofs.lemmas.Int.{ints}
-use Rattle.std.proofs.lemmas.Bool.Decides.{nat_tests}
-use Rattle.std.proofs.lemmas.List.{get_or-map, length-map}
-use Rattle.std.proofs.lemmas.List.Sorted.{IsPermutation-trans}
+use Rattle.std.proofs.lemmas.{Int.ints, Bool.Decides.nat_tests}
+use Rattle.std.proofs.lemmas.List.{get_or-map, length-map, Sorted.IsPermutation-trans}
 use Rattle.sqlite_keyed.proofs.SortLemmas.{sorted_unique}
 use Rattle.sqlite_trees.proofs.ListLemmas.{all-permutation, all-get_or}
 use Rattle.sqlite_value.proofs.OrderLemmas.{value_cmp-Int}
 use Rattle.sqlite.specs.declared.types.Value.TheVariants.{Int, Blob}
 use Rattle.sqlite.specs.Order.{Row, column, value_cmp}
-use Rattle.acceptor.specs.declared.entry.Entry.{Entry}
-use Rattle.acceptor.specs.declared.stored.Vote.{Vote}
-use Rattle.acceptor.specs.declared.stored.Stored.{Stored}
+use Rattle.acceptor.specs.declared.{entry.Entry.Entry, stored.Vote.Vote, stored.Stored.Stored}
 use Rattle.store.specs.declared.home.Home.{Home}
 use Rattle.sqlite.proofs.Callers.{one_permutation}
 use Rattle.store.specs.Holding.{entry_values, log_values, entry_columns, shown_entry, by_first}
@@ -39,8 +33,7 @@ at_is r n e = rw e refl
 
 then_equal : (o : Ordering) → is_lt (ordering_then o Equal) ≡ is_lt o
 then_equal Less = refl
-then_equal Equal = refl
-then_equal Greater = refl
+then_equal _ = refl
 
 as_nat : (m n : ℕ) → is_lt (int_cmp (pos m) (pos n)) ≡ is_lt (nat_cmp m n)
 as_nat m n = grind (arith, ints, nat_tests)
@@ -145,8 +138,7 @@ full i n low is most = omega (arith, low, is, most)
 desk_again : (home : Home) (s : Stored) → desk_columns (desk_values home s) ≡ desk_values home s
 desk_again home s = go s.vote
   where
-    go : (v : Option Vote)
-        → desk_columns (desk_values home (record s { vote = v }))
+    go : (v : Option Vote) → desk_columns (desk_values home (record s { vote = v }))
         ≡ desk_values home (record s { vote = v })
     go None = refl
     go (Some v) = refl

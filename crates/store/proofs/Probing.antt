@@ -1,9 +1,6 @@
 -- The empty text changes nothing.
 use Rattle.std.proofs.Common.{◌≡◌, inl, inr, ℕ, [], Ok, refl, sym, ap, subst, subst₂, ◌∙◌}
-use Rattle.sqlite.specs.Tree.{Trees}
-use Rattle.sqlite.specs.Command.TheVariants.{Nothing}
-use Rattle.sqlite.specs.Does.{Does}
-use Rattle.sqlite.specs.Clock.{timed}
+use Rattle.sqlite.specs.{Tree.Trees, Command.TheVariants.Nothing, Does.Does, Clock.timed}
 use Rattle.sqlite.specs.State.{State, IsUnchanged, Executes, CommitsBy, mode_of, text_of}
 use Rattle.sqlite.proofs.Callers.{IsPlain, command_of, runs_as}
 use Rattle.store.proofs.Texts.{empty_is, empty_plain}

@@ -1,44 +1,28 @@
 -- What the two queries give, and what they leave.
 use Rattle.std.proofs.Common.{◌≡◌, inl, inr, ℕ, List, [], ◌∷◌, map, IsPermutation, false, IsTrue}
-use Rattle.std.proofs.Common.{OnOk, IfErr, Result, Ok, Err, refl, sym, ap, subst, subst₂, ◌∙◌}
-use Rattle.std.specs.List.{flat_map}
-use Rattle.std.proofs.lemmas.List.Sorted.{IsPermutation-map}
-use Rattle.sqlite.specs.Order.{Row}
-use Rattle.sqlite.specs.Tree.{Trees}
-use Rattle.sqlite.specs.Term.{Term, eval_all, Env}
+use Rattle.std.proofs.Common.{OnOk, IfErr, Result, Ok, Err, refl, sym, ap, subst, subst₂, ◌∙◌, ◌+◌}
+use Rattle.std.proofs.Common.{◌<◌, length, arith, ap₂, IsSorted}
+use Rattle.std.specs.{List.flat_map, List.AllByRecursion, Ordering.is_lt}
+use Rattle.std.proofs.lemmas.List.{Sorted.IsPermutation-map, get_or-map, length-map}
+use Rattle.sqlite.specs.{Order.Row, Order.column, declared.error.Error.Error, Listing.understood}
+use Rattle.sqlite.specs.{Tree.Trees, Program.overlay, Command.Command, Table.Table}
+use Rattle.sqlite.specs.{Term.Term, Term.eval_all, Term.Env, Term.col, Collation.TheVariants.Binary}
 use Rattle.sqlite.specs.Query.{IsAnswer, Output, output, page}
-use Rattle.sqlite.specs.Program.{overlay}
 use Rattle.sqlite_value.specs.declared.keys.Key.{Key}
-use Rattle.sqlite.specs.Command.{Command}
-use Rattle.sqlite.specs.Table.{Table}
-use Rattle.sqlite.specs.declared.error.Error.{Error}
-use Rattle.sqlite.specs.Listing.{understood}
 use Rattle.sqlite.specs.State.{State, IsUnchanged, IsNotRun, FailsToQuery, Shown, CommitsShowing}
 use Rattle.sqlite.proofs.Callers.{IsPlain, reads_as, never_commits}
-use Rattle.acceptor.specs.declared.entry.Entry.{Entry}
-use Rattle.acceptor.specs.declared.stored.Stored.{Stored}
-use Rattle.store.specs.declared.home.Home.{Home}
-use Rattle.store.specs.Layout.{store_schema, IsOurs}
-use Rattle.store.specs.Holding.{shown_desk, shown_entry, by_first}
-use Rattle.std.proofs.Common.{ℕ, ◌+◌, ◌<◌, length, arith, ap₂, IsSorted}
-use Rattle.std.specs.List.{AllByRecursion}
-use Rattle.std.specs.Ordering.{is_lt}
-use Rattle.std.proofs.lemmas.List.{get_or-map, length-map}
+use Rattle.acceptor.specs.declared.{entry.Entry.Entry, stored.Stored.Stored}
+use Rattle.store.specs.{declared.home.Home.Home, Layout.store_schema, Kept.Keeps, Kept.Spares}
+use Rattle.store.specs.{Layout.IsOurs, Holding.shown_desk, Holding.shown_entry, Holding.by_first}
 use Rattle.sqlite_trees.proofs.ListLemmas.{all-permutation, all-get_or}
 use Rattle.sqlite_sql.specs.Query.{Query, output_cmp, key_cmp}
-use Rattle.sqlite.specs.Order.{column}
-use Rattle.sqlite.specs.Term.{col}
-use Rattle.sqlite.specs.Collation.TheVariants.{Binary}
-use Rattle.store.specs.Kept.{Keeps, Spares}
-use Rattle.store.proofs.SqlTexts.{desk_text, log_text}
+use Rattle.store.proofs.{SqlTexts.desk_text, Saving.kept_unchanged, Saving.kept_back}
+use Rattle.store.proofs.{SqlTexts.log_text, Texts.log_plain, Texts.log_listing, Texts.log_terms}
 use Rattle.store.proofs.Texts.{sorted, desk_is, desk_plain, desk_listing, desk_terms, log_is}
-use Rattle.store.proofs.Texts.{log_plain, log_listing, log_terms}
-use Rattle.store.proofs.Saving.{kept_unchanged, kept_back}
 
 -- every row of the table, shown by the terms, in some order
 module _ (t : ℕ) (terms : List Term) (order : List (Term × Key)) (db : Trees) (params : Row) where
-  each : (rows : List Row)
-      → map (λ (o : Output). o.1)
+  each : (rows : List Row) → map (λ (o : Output). o.1)
       (map (output (sorted t terms order)) (flat_map (λ r. (params ∷ r ∷ []) ∷ []) rows))
       ≡ map (λ r. eval_all terms (params ∷ r ∷ [])) rows
   each [] = refl
@@ -47,8 +31,7 @@ module _ (t : ℕ) (terms : List Term) (order : List (Term × Key)) (db : Trees)
   pub all_rows : (rows : List Row) → IsAnswer (sorted t terms order) (overlay db []) params rows
       → IsPermutation (map (λ r. eval_all terms (params ∷ r ∷ [])) (overlay db [] t)) rows
   all_rows rows a =
-      let kept : a.kept
-      ≡ map (output (sorted t terms order))
+      let kept : a.kept ≡ map (output (sorted t terms order))
       (flat_map (λ r. (params ∷ r ∷ []) ∷ []) (overlay db [] t)) =
       a.distinct
       ∙ ap (map (output (sorted t terms order))) a.grouped in
@@ -91,11 +74,8 @@ log_sorted db rows a =
     let kept : a.kept
     ≡ map (output log_query) (flat_map (λ r. ([] ∷ r ∷ []) ∷ []) (overlay db [] 1)) = a.distinct
     ∙ ap (map (output log_query)) a.grouped in
-    subst (IsSorted by_first) (sym a.shown)
-    (in_order a.ordered
-    (all-permutation IsKeyed _ _ a.same
-    (subst (AllByRecursion IsKeyed) (sym kept) (all_keyed (overlay db [] 1))))
-    a.sorted)
+    subst (IsSorted by_first) (sym a.shown) (in_order a.ordered (all-permutation IsKeyed _ _ a.same
+    (subst (AllByRecursion IsKeyed) (sym kept) (all_keyed (overlay db [] 1)))) a.sorted)
 
 unchanged : (sql : List ℕ) (params : Row) (old new : State) (rows : List Row)
     → IsPlain (understood old.now.schema sql) → Shown sql params old new rows → IsUnchanged old new
@@ -139,8 +119,7 @@ log_shown old new rows ours h =
 -- a query that is refused and leaves the connection open changes nothing
 query_refused : (sql : List ℕ) (params : Row) (old new : State) (e : Error)
     → IsPlain (understood old.now.schema sql) → FailsToQuery sql params old new e
-    → IsTrue new.is_open
-    → IsTrue old.is_open
+    → IsTrue new.is_open → IsTrue old.is_open
     × ((home : Home) (s : Stored) (log : List Entry) → Keeps home s log old → Keeps home s log new)
 unfolding FailsToQuery IsNotRun
 query_refused sql params old new e plain (inl (inl it)) live =

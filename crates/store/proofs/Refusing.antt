@@ -1,8 +1,7 @@
 -- A statement or a query that was refused, told as what was run.
 use Rattle.std.proofs.Common.{inr, ℕ, List, Ok, Err, Result, IfOk, IfErr}
 use Rattle.std.specs.Global.{Vec}
-use Rattle.sqlite.specs.Order.{Row}
-use Rattle.sqlite.specs.declared.error.Error.{Error}
+use Rattle.sqlite.specs.{Order.Row, declared.error.Error.Error}
 use Rattle.sqlite.specs.State.{State, FailsToQuery, Shown}
 use Rattle.store.specs.Refusals.{IsAsked}
 

@@ -1,22 +1,14 @@
 -- What each UPDATE makes of the desk's row.
 use Rattle.std.proofs.Common.{◌≡◌, ℕ, ℤ, pos, List, [], ◌∷◌, ◌++◌, map, Bool, true, false, cond}
 use Rattle.std.proofs.Common.{Option, Some, None, refl, ap, ◌∙◌, drop, take}
-use Rattle.sqlite.specs.declared.types.Value.{Value}
+use Rattle.sqlite.specs.{declared.types.Value.Value, Order.Row, Ops.unary, Kind.TheVariants.Integer}
 use Rattle.sqlite.specs.declared.types.Value.TheVariants.{Null, Int, Blob}
-use Rattle.sqlite.specs.Order.{Row, column, value_cmp}
-use Rattle.sqlite.specs.Term.{Term, eval_all}
-use Rattle.sqlite.specs.Ops.{unary}
-use Rattle.sqlite.specs.Cast.{cast, cast_all, cast_row}
-use Rattle.sqlite.specs.Kind.TheVariants.{Integer}
-use Rattle.sqlite.specs.Edit.{Edit, edit_of, edited, without_all}
-use Rattle.sqlite.specs.Rowids.TheVariants.{Given}
+use Rattle.sqlite.specs.{Order.column, Term.Term, Term.eval_all, Rowids.TheVariants.Given}
+use Rattle.sqlite.specs.{Order.value_cmp, Edit.Edit, Edit.edit_of, Edit.edited, Edit.without_all}
+use Rattle.sqlite.specs.{Cast.cast, Cast.cast_all, Cast.cast_row, Tree.Trees, Tree.put_row}
 use Rattle.sqlite_rules.specs.Calls.{ids_of}
-use Rattle.sqlite.specs.Tree.{Trees, put_row}
-use Rattle.store.specs.declared.home.Home.{Home}
-use Rattle.acceptor.specs.declared.ballot.Ballot.{Ballot}
-use Rattle.acceptor.specs.declared.stored.Vote.{Vote}
-use Rattle.acceptor.specs.declared.stored.Stored.{Stored}
-use Rattle.store.specs.Layout.{desk_table}
+use Rattle.store.specs.{declared.home.Home.Home, Layout.desk_table}
+use Rattle.acceptor.specs.declared.{ballot.Ballot.Ballot, stored.Vote.Vote, stored.Stored.Stored}
 use Rattle.store.specs.Holding.{desk_values, vote_values, shown_desk}
 use Rattle.store.proofs.Texts.{promise_terms, vote_terms, try_terms}
 
@@ -49,8 +41,7 @@ pub shown_stored : (home : Home) (s : Stored)
     → shown_desk (stored_as (desk_values home s)) ≡ desk_values home s
 shown_stored home s = go s.vote
   where
-    go : (v : Option Vote)
-        → shown_desk (stored_as (desk_values home (record s { vote = v })))
+    go : (v : Option Vote) → shown_desk (stored_as (desk_values home (record s { vote = v })))
         ≡ desk_values home (record s { vote = v })
     go None = refl
     go (Some v) = refl
@@ -122,8 +113,7 @@ voted_values home s v = refl
 
 module _ (trees : Trees) (row : Row) (home : Home) (s : Stored) (one : trees 0 ≡ row ∷ [])
     (shows : shown_desk row ≡ desk_values home s) where
-  pub promises : (b : Ballot)
-      → map shown_desk
+  pub promises : (b : Ballot) → map shown_desk
       (edited trees (rewritten trees (eval_all promise_terms (promise_params b ∷ row ∷ []))))
       ≡ desk_values home (record s { promised = b }) ∷ []
   promises b =
@@ -131,16 +121,14 @@ module _ (trees : Trees) (row : Row) (home : Home) (s : Stored) (one : trees 0 �
       (ap (of_shown promise_terms (promise_params b)) shows
       ∙ promised_values home s.promised b s.tried s.vote)
 
-  pub tries : (n : ℕ)
-      → map shown_desk
+  pub tries : (n : ℕ) → map shown_desk
       (edited trees (rewritten trees (eval_all try_terms (try_params n ∷ row ∷ []))))
       ≡ desk_values home (record s { tried = n }) ∷ []
   tries n =
       rewrites trees row home s (record s { tried = n }) _ one shows
       (ap (of_shown try_terms (try_params n)) shows ∙ tried_values home s.promised s.tried n s.vote)
 
-  pub votes : (v : Vote)
-      → map shown_desk
+  pub votes : (v : Vote) → map shown_desk
       (edited trees (rewritten trees (eval_all vote_terms (vote_params v ∷ row ∷ []))))
       ≡ desk_values home (record s { promised = v.ballot; vote = Some v }) ∷ []
   votes v =

@@ -1,30 +1,16 @@
 -- From the meaning of a statement to what it leaves.
-use Rattle.std.proofs.Common.{◌≡◌, inl, inr, ℕ, List, [], ◌∷◌, map, IsPermutation, false}
-use Rattle.std.proofs.Common.{Option, None, Ok, Err, IsTrue, sym, ap, subst}
-use Rattle.std.proofs.Common.{◌∙◌}
-use Rattle.sqlite.specs.Order.{Row}
-use Rattle.sqlite.specs.Tree.{Trees}
-use Rattle.sqlite.specs.Term.{Term, eval_all}
-use Rattle.sqlite.specs.Edit.{edited}
-use Rattle.sqlite.specs.declared.error.Error.{Error}
-use Rattle.sqlite.specs.declared.run.Mode.{Mode}
-use Rattle.sqlite.specs.Command.{Command}
-use Rattle.sqlite.specs.Does.{Tally, Does}
-use Rattle.sqlite.specs.Effect.{Database}
-use Rattle.sqlite.specs.State.{State, IsUnchanged, IsRolledBack, IsNotRun}
-use Rattle.sqlite.specs.State.{ExecutesIn, Executes}
-use Rattle.sqlite.specs.State.{shows_rows}
+use Rattle.std.proofs.Common.{◌≡◌, inl, inr, ℕ, List, [], ◌∷◌, map, IsPermutation, false, Option}
+use Rattle.std.proofs.Common.{None, Ok, Err, IsTrue, sym, ap, subst, ◌∙◌}
+use Rattle.sqlite.specs.{Order.Row, Tree.Trees, Edit.edited, Command.Command, Effect.Database}
+use Rattle.sqlite.specs.{Term.Term, Term.eval_all, Does.Tally, Does.Does, State.shows_rows}
+use Rattle.sqlite.specs.declared.{error.Error.Error, run.Mode.Mode}
+use Rattle.sqlite.specs.State.{State, IsUnchanged, IsRolledBack, IsNotRun, ExecutesIn, Executes}
 use Rattle.std.proofs.lemmas.Bool.{cases_Bool}
-use Rattle.acceptor.specs.declared.entry.Entry.{Entry}
-use Rattle.store.specs.declared.home.Home.{Home}
-use Rattle.acceptor.specs.declared.stored.Stored.{Stored}
-use Rattle.store.specs.Layout.{IsOurs}
+use Rattle.acceptor.specs.declared.{entry.Entry.Entry, stored.Stored.Stored}
+use Rattle.store.specs.{declared.home.Home.Home, Layout.IsOurs, model.Unique.same_home}
 use Rattle.store.specs.Holding.{Holds, desk_values, log_values, shown_desk, shown_entry}
 use Rattle.store.specs.Kept.{Keeps, HasDesk, Spares}
-use Rattle.store.specs.model.Unique.{same_home}
-use Rattle.store.proofs.Texts.{updates}
-use Rattle.store.proofs.Updating.{updated}
-use Rattle.store.proofs.Rewriting.{rewritten, only_row}
+use Rattle.store.proofs.{Texts.updates, Updating.updated, Rewriting.rewritten, Rewriting.only_row}
 
 -- while the connection is open, a crash leaves the last commit
 abbrev pub Settles : State → Type 0
@@ -84,17 +70,13 @@ pub update_makes : (params : Row) (terms : List Term) (home : Home) (s t : Store
     (log : List Entry)
     → ((trees : Trees) (row : Row) → trees 0 ≡ row ∷ [] → shown_desk row ≡ desk_values home s
     → map shown_desk (edited trees (rewritten trees (eval_all terms (params ∷ row ∷ []))))
-    ≡ desk_values home t ∷ [])
-    → Makes (updates terms) params home s t log log
+    ≡ desk_values home t ∷ []) → Makes (updates terms) params home s t log log
 update_makes params terms home s t log edits limit mode db ours holds text tally after does =
     let found = only_row home s (db.trees 0) holds.desk in
     let all = updated ours.others ours.indexes ours.views ours.unkeyed terms limit mode params
-    db.trees found.0 found.1 text tally after
-    (subst
-    (λ sch.
+    db.trees found.0 found.1 text tally after (subst (λ sch.
     Does limit mode params (record { schema = sch; trees = db.trees }) text None (updates terms)
-    (Ok (tally, after)))
-    ours.is does) in (
+    (Ok (tally, after))) ours.is does) in (
       record {
         others = ours.others;
         indexes = ours.indexes;

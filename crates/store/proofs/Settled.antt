@@ -1,20 +1,13 @@
 -- What a settling leaves, and what a keeper has in which nothing waits.
 use Rattle.std.proofs.Common.{◌≡◌, ◌≤◌, ◌⊎◌, inl, inr, refl, sym, ap, subst, subst₂, ◌∙◌, ℕ, List}
 use Rattle.std.proofs.Common.{[], ◌∷◌, ◌++◌, length, Some, Result, IsTrue}
-use Rattle.sqlite.specs.Tree.{Trees}
-use Rattle.sqlite.specs.declared.error.Error.{Error}
-use Rattle.sqlite.specs.State.{State, HasCleanDisk}
-use Rattle.acceptor.specs.declared.entry.Entry.{Entry}
-use Rattle.acceptor.specs.declared.stored.Change.{Change}
-use Rattle.acceptor.specs.declared.stored.Stored.{Stored}
+use Rattle.sqlite.specs.{Tree.Trees, declared.error.Error.Error, State.State, State.HasCleanDisk}
+use Rattle.acceptor.specs.declared.{entry.Entry.Entry, stored.Change.Change, stored.Stored.Stored}
 use Rattle.acceptor.specs.Storing.{stored_after, log_after}
-use Rattle.store.specs.declared.home.Home.{Home}
+use Rattle.store.specs.{declared.home.Home.Home, Keeping.FindsNoMore, Kept.Keeps, Kept.MayBreak}
 use Rattle.store.specs.Changes.{Leads, stored_after_all, log_after_all}
-use Rattle.store.specs.Inside.{SavesAllAt, TellsLength}
-use Rattle.store.specs.Keeping.{FindsNoMore}
-use Rattle.store.specs.Kept.{Keeps, MayBreak, MayLeave, Saved}
-use Rattle.store.specs.Ranges.{IsFit, most_entries}
-use Rattle.store.specs.Waiting.{KeepsBefore, MayLeaveBefore}
+use Rattle.store.specs.{Inside.SavesAllAt, Inside.TellsLength, Ranges.IsFit, Ranges.most_entries}
+use Rattle.store.specs.{Kept.MayLeave, Kept.Saved, Waiting.KeepsBefore, Waiting.MayLeaveBefore}
 use Rattle.store.specs.model.Unique.{alone, alone_after, leads_nowhere, one_state}
 
 -- ---- one change more waits
@@ -37,8 +30,7 @@ kept_more home len changes now c state s log k is = record {
   before = k.before;
   past = k.past;
   leads =
-      subst
-      (λ cs.
+      subst (λ cs.
       Leads cs k.before k.past (stored_after s (Some c)) (log_after log (Some c))) (sym is)
       (record {
         stored =
@@ -61,8 +53,7 @@ saved_of len changes items old new r home s log saves same clean k fit =
     (subst (λ l. Saved home k.before (stored_after_all k.before changes) k.past l new r)
     (sym k.leads.log)
     ((subst (λ cs. SavesAllAt len cs old new r) (sym same) saves) clean home k.before k.past
-    k.keeps k.long
-    (subst (λ l. length l ≤ most_entries) k.leads.log fit.long)))
+    k.keeps k.long (subst (λ l. length l ≤ most_entries) k.leads.log fit.long)))
 
 pub length_of : (len after : ℕ) (changes items : List Change) (old : State) (home : Home)
     (s : Stored) (log : List Entry)
@@ -74,8 +65,7 @@ length_of len after changes items old home s log tells same k fit =
     (subst (λ l. length l ≤ most_entries) k.leads.log fit.long))
 
 pub kept_all : (home : Home) (after : ℕ) (items : List Change) (new : State) (s : Stored)
-    (log : List Entry)
-    → after ≡ length log → items ≡ [] → Keeps home s log new
+    (log : List Entry) → after ≡ length log → items ≡ [] → Keeps home s log new
     → KeepsBefore home after items new s log
 kept_all home after items new s log long none keeps = record {
   before = s;
@@ -95,8 +85,7 @@ module _ (home : Home) (len : ℕ) (changes : List Change) (old : State) (s : St
     whole_so = (alone_after old home len changes s log settles stays k).whole
 
     pub either_for : (new : State) (r : Result (Unit {0}) Error)
-        → Saved home k.before s k.past log new r
-        → (¬ MayBreak new home)
+        → Saved home k.before s k.past log new r → (¬ MayBreak new home)
         × ((t : Stored) (more : List Entry) → MayLeave new home t more
         → MayLeave old home t more ⊎ MayLeaveBefore changes old home t more)
     either_for new r saved = (
@@ -130,8 +119,7 @@ kept_alone home len changes state s log none k =
     subst₂ (λ t l. Keeps home t l state) (sym same.0) (sym same.1) k.keeps
 
 pub kept_with : (home : Home) (len : ℕ) (changes : List Change) (old new : State) (s : Stored)
-    (log : List Entry)
-    → KeepsBefore home len changes old s log
+    (log : List Entry) → KeepsBefore home len changes old s log
     → ((t : Stored) (past : List Entry) → Keeps home t past old → Keeps home t past new)
     → KeepsBefore home len changes new s log
 kept_with home len changes old new s log k on = record {

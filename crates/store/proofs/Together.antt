@@ -3,25 +3,16 @@ use Rattle.std.proofs.Common.{◌≡◌, inl, inr, ℕ, List, [], ◌∷◌, ◌
 use Rattle.std.proofs.Common.{OnOk, OnErr, IsTrue, ◌∙◌, ap, ap₂, sym, subst, ◌≤◌, arith, ◌-◌}
 use Rattle.std.proofs.Common.{length-append, true, false, refl, take, drop, get_or}
 use Rattle.std.specs.Prelude.{IfErr}
-use Rattle.sqlite.specs.declared.error.Error.{Error}
-use Rattle.sqlite.specs.Effect.{Database}
+use Rattle.sqlite.specs.{declared.error.Error.Error, Effect.Database, Steps.FailsToCommit}
 use Rattle.sqlite.specs.State.{State, HasCleanDisk, Survives, Shows, IsRolledBack, KeepsCounts}
-use Rattle.sqlite.specs.Steps.{FailsToCommit}
 use Rattle.sqlite.specs.Tree.{Trees}
-use Rattle.acceptor.specs.declared.entry.Entry.{Entry}
-use Rattle.acceptor.specs.declared.stored.Stored.{Stored}
-use Rattle.acceptor.specs.declared.stored.Change.{Change}
+use Rattle.acceptor.specs.declared.{entry.Entry.Entry, stored.Stored.Stored, stored.Change.Change}
 use Rattle.acceptor.specs.declared.stored.Change.TheVariants.{Promised, Voted, Tried, Appended}
 use Rattle.acceptor.specs.Storing.{stored_after, log_after}
-use Rattle.store.specs.declared.home.Home.{Home}
-use Rattle.store.specs.Layout.{IsOurs}
-use Rattle.store.specs.Holding.{Holds}
-use Rattle.store.specs.Kept.{Keeps}
-use Rattle.store.specs.Ranges.{most_entries}
-use Rattle.store.specs.Changes.{stored_after_all, log_after_all}
+use Rattle.store.specs.{declared.home.Home.Home, Layout.IsOurs, Holding.Holds, Kept.Keeps}
+use Rattle.store.specs.{Ranges.most_entries, Changes.stored_after_all, Changes.log_after_all}
 use Rattle.store.specs.Inside.{Inside, GoesOn, MakesInside, MakesAllInside, SavesAllAt, TellsLength}
-use Rattle.store.proofs.Patterns.{whole}
-use Rattle.store.proofs.Saving.{Settles}
+use Rattle.store.proofs.{Patterns.whole, Saving.Settles}
 
 -- what a pattern of a slice says
 pub one_and_more : (xs : List Change) (a : Change) → 1 ≤ length xs → a ≡ get_or xs 0 a
@@ -42,8 +33,7 @@ grows log (Appended e ∷ cs) =
 -- what tells the length after one change
 abbrev pub TellsOne : ℕ → Change → ℕ → Type 0
 TellsOne len change after =
-    (log : List Entry) → len ≡ length log
-    → length (log_after log (Some change)) ≤ most_entries
+    (log : List Entry) → len ≡ length log → length (log_after log (Some change)) ≤ most_entries
     → after ≡ length (log_after log (Some change))
 
 pub length_none : (len : ℕ) (changes : List Change) → changes ≡ [] → TellsLength len changes len
@@ -144,14 +134,12 @@ all_stops old mid new len changes e settles all lives back dies clean home s log
 
 -- all were made, and the transaction is committed, or that fails
 pub all_made : (old mid new : State) (len : ℕ) (changes : List Change) (x : Unit {0})
-    (r : Result (Unit {0}) Error) → Settles old
-    → MakesAllInside len changes (begun old) mid (Ok x)
+    (r : Result (Unit {0}) Error) → Settles old → MakesAllInside len changes (begun old) mid (Ok x)
     → Survives (begun old) mid (λ _. ⊥)
     → (HasCleanDisk new → OnOk r (IsTrue mid.in_transaction × Shows mid new mid.now mid.now false
     × KeepsCounts mid new × (new.marks ≡ [])))
     → (HasCleanDisk new → IfErr r (FailsToCommit mid new))
-    → Survives mid new (λ db. db ≡ mid.now.trees)
-    → SavesAllAt len changes old new r
+    → Survives mid new (λ db. db ≡ mid.now.trees) → SavesAllAt len changes old new r
 all_made old mid new len changes x r settles all lives commits fails dies clean home s log k last
     long =
     record {
@@ -188,8 +176,7 @@ all_made old mid new len changes x r settles all lives commits fails dies clean 
           (log_after_all log changes)) (sym h.1.now_is) inside.holds;
     }
 
-    went_err : (r : Result (Unit {0}) Error)
-        → IfErr r (FailsToCommit mid new)
+    went_err : (r : Result (Unit {0}) Error) → IfErr r (FailsToCommit mid new)
         → OnErr r (IsTrue new.is_open → Keeps home s log new)
     went_err (Ok y) h = tt
     went_err (Err e) (inl h) = λ (live : IsTrue new.is_open).

@@ -1,27 +1,14 @@
 -- What an UPDATE of the one row of the first table makes of a database.
 use Rattle.std.proofs.Common.{◌≡◌, ◌⊎◌, inl, inr, ℕ, List, [], ◌∷◌, map, None, Ok, Err, Result}
 use Rattle.std.proofs.Common.{refl, ap, subst, ◌∙◌}
-use Rattle.std.specs.List.{flat_map}
-use Rattle.std.specs.List.Sorted.{IsPermutation}
-use Rattle.sqlite.specs.declared.types.Value.TheVariants.{Null}
-use Rattle.sqlite.specs.Order.{Row}
-use Rattle.sqlite.specs.Term.{Term, eval_all}
-use Rattle.sqlite.specs.Query.{IsAnswer, output, page, Output}
-use Rattle.sqlite.specs.Program.{overlay}
-use Rattle.sqlite.specs.Table.{Table}
-use Rattle.sqlite.specs.Schema.{Schema}
-use Rattle.sqlite_schema.specs.declared.schema.Index.{Index}
-use Rattle.sqlite_schema.specs.declared.schema.View.{View}
-use Rattle.sqlite.specs.Edit.{Edit, edit_of, edited, taken_by}
-use Rattle.sqlite.specs.Rowids.TheVariants.{Given}
-use Rattle.sqlite_rules.specs.Action.{work_for}
-use Rattle.sqlite_rules.specs.Calls.{ids_of}
-use Rattle.sqlite_schema.specs.declared.schema.Keys.{Keys}
-use Rattle.sqlite.specs.Does.{Tally, Does}
-use Rattle.sqlite.specs.declared.run.Mode.{Mode}
-use Rattle.sqlite.specs.Rows.{Written}
-use Rattle.sqlite.specs.Tree.{Trees}
-use Rattle.sqlite.specs.Effect.{Database}
+use Rattle.std.specs.List.{flat_map, Sorted.IsPermutation}
+use Rattle.sqlite.specs.{declared.types.Value.TheVariants.Null, Query.page, declared.run.Mode.Mode}
+use Rattle.sqlite.specs.{Order.Row, Program.overlay, Table.Table, Schema.Schema, Rows.Written}
+use Rattle.sqlite.specs.{Term.Term, Term.eval_all, Query.IsAnswer, Does.Tally, Does.Does}
+use Rattle.sqlite.specs.{Query.output, Rowids.TheVariants.Given, Tree.Trees, Effect.Database}
+use Rattle.sqlite.specs.{Query.Output, Edit.Edit, Edit.edit_of, Edit.edited, Edit.taken_by}
+use Rattle.sqlite_schema.specs.declared.schema.{Index.Index, View.View, Keys.Keys}
+use Rattle.sqlite_rules.specs.{Action.work_for, Calls.ids_of}
 use Rattle.sqlite.proofs.Callers.{one_step, one_permutation}
 use Rattle.store.specs.Layout.{desk_table, store_schema, HasNoKey}
 use Rattle.store.proofs.Texts.{base, updates}
@@ -37,8 +24,7 @@ same_value e = cc
 
 -- the answer of a query over the one row of the first table
 pub one_row : (terms : List Term) (db : Trees) (params row : Row) (rows : List Row)
-    → db 0 ≡ row ∷ []
-    → IsAnswer (base 0 terms) (overlay db []) params rows
+    → db 0 ≡ row ∷ [] → IsAnswer (base 0 terms) (overlay db []) params rows
     → rows ≡ eval_all terms (params ∷ row ∷ []) ∷ []
 one_row terms db params row rows one a =
     let q = base 0 terms in
@@ -51,22 +37,16 @@ one_row terms db params row rows one a =
 
 -- no table refers to another, so a write sets nothing off
 pub idle : (ours : Schema) (keys : Keys) (depth tree : ℕ) (olds news : List Row)
-    (others : List Table)
-    → HasNoKey others
-    → flat_map
-    (λ child.
+    (others : List Table) → HasNoKey others → flat_map (λ child.
     Rattle.std.specs.List.filter_map (work_for ours keys depth tree olds news child)
-    child.references)
-    others
-    ≡ []
+    child.references) others ≡ []
 idle ours keys depth tree olds news [] none = refl
 idle ours keys depth tree olds news (t ∷ more) none =
     rw (none.0) (idle ours keys depth tree olds news more none.1)
 
 module _ (others : List Table) (ix : List Index) (vs : List View) (unkeyed : HasNoKey others)
     (terms : List Term) (limit : _) (mode : Mode) (params : Row) (trees : Trees) (row : Row)
-    (one : trees 0 ≡ row ∷ [])
-    (text : List ℕ) (tally : Tally) (after : Database)
+    (one : trees 0 ≡ row ∷ []) (text : List ℕ) (tally : Tally) (after : Database)
     (does : Does limit mode params (record { schema = store_schema others ix vs; trees = trees })
     text None (updates terms) (Ok (tally, after)))
   where
@@ -76,8 +56,7 @@ module _ (others : List Table) (ix : List Index) (vs : List View) (unkeyed : Has
         (eval_all terms (params ∷ row ∷ []) ∷ [])
 
     pub updated : (after.schema ≡ store_schema others ix vs)
-        × (after.trees 0 ≡ edited trees edit_to)
-        × (after.trees 1 ≡ trees 1)
+        × (after.trees 0 ≡ edited trees edit_to) × (after.trees 1 ≡ trees 1)
     updated =
         let done = went does in
         let now : after ≡ record { schema = store_schema others ix vs; trees = done.0.trees } =
@@ -91,8 +70,7 @@ module _ (others : List Table) (ix : List Index) (vs : List View) (unkeyed : Has
         let edit = edit_of trees (desk_table 0) (ids_of given.0) Given 1 given.0 in
         let applied = one_step (store_schema others ix vs) mode.keys trees written.0 edit
         (idle (store_schema others ix vs) mode.keys 0 0 (taken_by trees edit) edit.news others
-        unkeyed)
-        written.1 in
+        unkeyed) written.1 in
         let is : edit ≡ edit_to =
         ap (λ (rs : List Row). edit_of trees (desk_table 0) (ids_of rs) Given 1 rs) rows in (
           ap (λ (d : Database). d.schema) now,

@@ -1,8 +1,6 @@
 -- What several changes leave, one after the other (the project's own).
 use Rattle.std.specs.Prelude.{◌≡◌, List, [], ◌∷◌, Some}
-use Rattle.acceptor.specs.declared.entry.Entry.{Entry}
-use Rattle.acceptor.specs.declared.stored.Stored.{Stored}
-use Rattle.acceptor.specs.declared.stored.Change.{Change}
+use Rattle.acceptor.specs.declared.{entry.Entry.Entry, stored.Stored.Stored, stored.Change.Change}
 use Rattle.acceptor.specs.Storing.{stored_after, log_after}
 
 abbrev pub stored_after_all : Stored → List Change → Stored

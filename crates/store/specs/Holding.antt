@@ -1,19 +1,12 @@
 -- Which rows stand for which state (the project's own).
-use Rattle.std.specs.Prelude.{◌≡◌, ℕ, ◌+◌, pos, List, [], ◌∷◌, map, Option, Some, None}
-use Rattle.std.specs.Prelude.{IsPermutation}
+use Rattle.std.specs.Prelude.{◌≡◌, ℕ, ◌+◌, pos, List, [], ◌∷◌, map, Option, Some, None, false}
+use Rattle.std.specs.{Prelude.IsPermutation, declared.cmp.Ordering.Ordering, Ordering.on}
 use Rattle.sqlite.specs.declared.types.Value.TheVariants.{Null, Int, Blob}
-use Rattle.std.specs.Prelude.{false}
-use Rattle.std.specs.declared.cmp.Ordering.{Ordering}
-use Rattle.std.specs.Ordering.{on}
-use Rattle.sqlite.specs.Order.{Row, column}
-use Rattle.sqlite.specs.Collation.TheVariants.{Binary}
+use Rattle.sqlite.specs.{Order.Row, Order.column, Collation.TheVariants.Binary, Tree.Trees}
 use Rattle.sqlite_sql.specs.Query.{key_cmp}
-use Rattle.sqlite.specs.Tree.{Trees}
-use Rattle.acceptor.specs.declared.ballot.Ballot.{Ballot}
-use Rattle.acceptor.specs.declared.entry.Entry.{Entry}
+use Rattle.acceptor.specs.declared.{ballot.Ballot.Ballot, entry.Entry.Entry}
 use Rattle.store.specs.declared.home.Home.{Home}
-use Rattle.acceptor.specs.declared.stored.Vote.{Vote}
-use Rattle.acceptor.specs.declared.stored.Stored.{Stored}
+use Rattle.acceptor.specs.declared.stored.{Vote.Vote, Stored.Stored}
 
 -- the five columns of a vote, NULL together
 abbrev pub vote_values : Option Vote → Row

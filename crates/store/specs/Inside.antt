@@ -1,19 +1,12 @@
 -- What a connection has inside a transaction, and what a change makes of it there (the
 -- project's own).
 use Rattle.std.specs.Prelude.{◌≡◌, ◌≤◌, ℕ, List, length, Some, Result, OnOk, OnErr, IsTrue}
-use Rattle.sqlite.specs.declared.error.Error.{Error}
-use Rattle.sqlite.specs.Effect.{Database}
+use Rattle.sqlite.specs.{declared.error.Error.Error, Effect.Database}
 use Rattle.sqlite.specs.State.{State, HasCleanDisk}
-use Rattle.acceptor.specs.declared.entry.Entry.{Entry}
-use Rattle.acceptor.specs.declared.stored.Stored.{Stored}
-use Rattle.acceptor.specs.declared.stored.Change.{Change}
+use Rattle.acceptor.specs.declared.{entry.Entry.Entry, stored.Stored.Stored, stored.Change.Change}
 use Rattle.acceptor.specs.Storing.{stored_after, log_after}
-use Rattle.store.specs.declared.home.Home.{Home}
-use Rattle.store.specs.Ranges.{most_entries}
-use Rattle.store.specs.Layout.{IsOurs}
-use Rattle.store.specs.Holding.{Holds}
-use Rattle.store.specs.Kept.{Keeps, Saved}
-use Rattle.store.specs.Changes.{stored_after_all, log_after_all}
+use Rattle.store.specs.{declared.home.Home.Home, Ranges.most_entries, Layout.IsOurs, Holding.Holds}
+use Rattle.store.specs.{Kept.Keeps, Kept.Saved, Changes.stored_after_all, Changes.log_after_all}
 
 -- It is open, the transaction has made this state, and the last commit is what it was.
 pub record Inside (home : Home) (t : Stored) (more : List Entry) (past : Database)
@@ -28,8 +21,7 @@ pub record Inside (home : Home) (t : Stored) (more : List Entry) (past : Databas
 abbrev pub GoesOn : {X : Type 0} → Home → Stored → List Entry → Database → State → Result X Error
     → Type 0
 GoesOn home t more past new r =
-    OnOk r (Inside home t more past new)
-    × OnErr r (IsTrue new.is_open → new.committed ≡ past)
+    OnOk r (Inside home t more past new) × OnErr r (IsTrue new.is_open → new.committed ≡ past)
 
 -- Whatever the transaction has made, with a log of this length, the statement makes the change.
 abbrev pub MakesInside : {X : Type 0} → ℕ → Change → State → State → Result X Error → Type 0
@@ -46,8 +38,7 @@ MakesPlain change old new r =
     → GoesOn home (stored_after t (Some change)) (log_after more (Some change)) past new r
 
 -- and of several
-abbrev pub MakesAllInside : {X : Type 0} → ℕ → List Change → State → State → Result X Error
-    → Type 0
+abbrev pub MakesAllInside : {X : Type 0} → ℕ → List Change → State → State → Result X Error → Type 0
 MakesAllInside at changes old new r =
     HasCleanDisk new → (home : Home) (t : Stored) (more : List Entry) (past : Database)
     → Inside home t more past old → at ≡ length more

@@ -1,13 +1,10 @@
 -- What a keeper's store holds, and what a save leaves there (the project's own).
 use Rattle.std.specs.Prelude.{◌≡◌, ◌⊎◌, ◌^◌, ◌-◌, ◌+◌, ◌<◌, ◌≢◌, ℕ, Bool, List, Some, Result, Ok}
 use Rattle.std.specs.Prelude.{Err, IsTrue}
-use Rattle.acceptor.specs.declared.entry.Entry.{Entry}
-use Rattle.acceptor.specs.declared.stored.Stored.{Stored}
-use Rattle.acceptor.specs.declared.stored.Change.{Change}
+use Rattle.acceptor.specs.declared.{entry.Entry.Entry, stored.Stored.Stored, stored.Change.Change}
 use Rattle.acceptor.specs.Storing.{stored_after, log_after}
-use Rattle.store.specs.declared.fault.SaveFault.{SaveFault}
+use Rattle.store.specs.{declared.fault.SaveFault.SaveFault, Ranges.IsFit}
 use Rattle.store.specs.declared.fault.SaveFault.TheVariants.{Device, NoMemory, Down}
-use Rattle.store.specs.Ranges.{IsFit}
 
 -- the count at which a keeper ends
 abbrev pub most_failures : ℕ
@@ -36,8 +33,7 @@ IsDamaged is_damaged failures is_honest is_sound keeps =
 abbrev pub IsLoaded : (Stored → List Entry → Type 0) → (Stored → List Entry → Type 0) → Stored
     → List Entry → Type 0
 IsLoaded may_hold keeps s log =
-    may_hold s log
-    × ((t : Stored) (more : List Entry) → keeps t more → (s ≡ t) × (log ≡ more))
+    may_hold s log × ((t : Stored) (more : List Entry) → keeps t more → (s ≡ t) × (log ≡ more))
 
 -- An opening finds nothing afterwards that it could not find before.
 abbrev pub FindsNoMore : (Stored → List Entry → Type 0) → Type 0
@@ -50,8 +46,7 @@ FindsNoMore held broke holds breaks =
 abbrev pub FindsOldOrKept : (Stored → List Entry → Type 0) → (Stored → List Entry → Type 0)
     → (Stored → List Entry → Type 0) → Type 0 → Type 0
 FindsOldOrKept found finds may_hold is_settled =
-    (s : Stored) (log : List Entry) → finds s log
-    → found s log ⊎ (is_settled × may_hold s log)
+    (s : Stored) (log : List Entry) → finds s log → found s log ⊎ (is_settled × may_hold s log)
 
 -- whatever was kept still is
 abbrev pub StaysKept : (Stored → List Entry → Type 0) → (Stored → List Entry → Type 0) → Type 0
@@ -62,8 +57,7 @@ StaysKept kept keeps = (s : Stored) (log : List Entry) → kept s log → keeps 
 abbrev pub SettlesFor : (Stored → List Entry → Type 0) → (Stored → List Entry → Type 0)
     → (Stored → List Entry → Type 0) → (Stored → List Entry → Type 0) → Type 0 → Type 0
 SettlesFor kept found held finds breaks =
-    (s : Stored) (log : List Entry) → kept s log
-    → (¬ breaks)
+    (s : Stored) (log : List Entry) → kept s log → (¬ breaks)
     × ((t : Stored) (more : List Entry) → finds t more → found t more ⊎ held t more)
 
 -- the state after the change is in its ranges

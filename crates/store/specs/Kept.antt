@@ -1,17 +1,11 @@
 -- What a connection keeps of a desk, and what a statement that saves leaves (the project's own).
-use Rattle.std.specs.Prelude.{◌≡◌, ◌≢◌, ◌⊎◌, ℕ, false, List, [], length, Some, Result}
-use Rattle.std.specs.Prelude.{OnOk, OnErr, IsTrue}
-use Rattle.sqlite.specs.Tree.{Trees}
-use Rattle.sqlite.specs.declared.error.Error.{Error}
-use Rattle.sqlite.specs.State.{State, HasCleanDisk}
-use Rattle.acceptor.specs.declared.entry.Entry.{Entry}
-use Rattle.store.specs.declared.home.Home.{Home}
-use Rattle.acceptor.specs.declared.stored.Stored.{Stored}
-use Rattle.acceptor.specs.declared.stored.Change.{Change}
+use Rattle.std.specs.Prelude.{◌≡◌, ◌≢◌, ◌⊎◌, ℕ, false, List, [], length, Some, Result, OnOk, OnErr}
+use Rattle.std.specs.Prelude.{IsTrue}
+use Rattle.sqlite.specs.{Tree.Trees, declared.error.Error.Error, State.State, State.HasCleanDisk}
+use Rattle.acceptor.specs.declared.{entry.Entry.Entry, stored.Stored.Stored, stored.Change.Change}
+use Rattle.store.specs.{declared.home.Home.Home, Whole.IsWhole, Whole.IsSound}
 use Rattle.acceptor.specs.Storing.{stored_after, log_after}
-use Rattle.store.specs.Ranges.{IsHome, StoredIsFit}
-use Rattle.store.specs.Whole.{IsWhole, IsSound}
-use Rattle.store.specs.Layout.{IsOurs, no_schema}
+use Rattle.store.specs.{Ranges.IsHome, Ranges.StoredIsFit, Layout.IsOurs, Layout.no_schema}
 use Rattle.store.specs.Holding.{Holds, HasRow}
 
 -- It is open, between transactions, and the two tables have this state

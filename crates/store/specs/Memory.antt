@@ -1,19 +1,13 @@
 -- What a keeper in memory has, and what a save and a load make of it (the project's own).
 use Rattle.std.specs.Prelude.{ℕ, ◌≡◌, ◌⊎◌, ◌+◌, ◌-◌, ◌==◌, ◌||◌, Bool, true, false, IsTrue}
 use Rattle.std.specs.Prelude.{if◌then◌else◌, List, [], Option, Some, None, Result, Ok, Err, nat_lt}
-use Rattle.acceptor.specs.declared.entry.Entry.{Entry}
-use Rattle.acceptor.specs.declared.stored.Stored.{Stored}
-use Rattle.acceptor.specs.declared.stored.Change.{Change}
+use Rattle.acceptor.specs.declared.{entry.Entry.Entry, stored.Stored.Stored, stored.Change.Change}
 use Rattle.acceptor.specs.Storing.{first_stored, stored_after, log_after}
 use Rattle.learner.specs.Logs.{LogValue}
-use Rattle.store.specs.declared.home.Home.{Home}
-use Rattle.store.specs.declared.failing.Failing.{Failing}
-use Rattle.store.specs.declared.fault.SaveFault.{SaveFault}
+use Rattle.store.specs.declared.{home.Home.Home, failing.Failing.Failing, fault.SaveFault.SaveFault}
 use Rattle.store.specs.declared.fault.SaveFault.TheVariants.{Device, NoMemory, Down}
-use Rattle.store.specs.declared.fault.LoadFault.{LoadFault}
+use Rattle.store.specs.{declared.fault.LoadFault.LoadFault, Keeping.most_failures, Ranges.IsFit}
 use Rattle.store.specs.declared.fault.LoadFault.TheVariants as load
-use Rattle.store.specs.Keeping.{most_failures}
-use Rattle.store.specs.Ranges.{IsFit}
 
 -- what it holds, which save it was told to fail at, and what it has failed
 pub record MemoryState : Type 0 where

@@ -1,21 +1,15 @@
 -- What an opening gives, and what a refusal tells and leaves (the project's own).
 use Rattle.std.specs.Prelude.{◌≡◌, ◌⊎◌, ℕ, List, [], length, Result, IfOk, IsTrue}
-use Rattle.sqlite.specs.Tree.{Trees}
-use Rattle.sqlite.specs.State.{State, HasCleanDisk}
-use Rattle.sqlite.specs.declared.error.Error.{Error}
-use Rattle.sqlite.specs.declared.error.Error.TheVariants.{SqliteFailure}
+use Rattle.sqlite.specs.{Tree.Trees, State.State, State.HasCleanDisk}
+use Rattle.sqlite.specs.declared.error.Error.{Error, TheVariants.SqliteFailure}
 use Rattle.sqlite.specs.declared.error.ErrorCode.TheVariants.{OutOfMemory, SystemIoFailure}
 use Rattle.sqlite.specs.declared.error.ErrorCode.TheVariants.{DiskFull, CannotOpen, DatabaseBusy}
-use Rattle.acceptor.specs.declared.entry.Entry.{Entry}
-use Rattle.acceptor.specs.declared.stored.Stored.{Stored}
+use Rattle.acceptor.specs.declared.{entry.Entry.Entry, stored.Stored.Stored}
 use Rattle.acceptor.specs.Storing.{first_stored}
-use Rattle.store.specs.declared.home.Home.{Home}
-use Rattle.store.specs.declared.fault.OpenFault.{OpenFault}
+use Rattle.store.specs.declared.{home.Home.Home, fault.OpenFault.OpenFault}
 use Rattle.store.specs.declared.fault.OpenFault.TheVariants.{NoMemory, Device, Damaged, WrongDesk}
-use Rattle.store.specs.Holding.{Holds}
+use Rattle.store.specs.{Holding.Holds, Ranges.IsFit, Whole.IsSound}
 use Rattle.store.specs.Kept.{Keeps, HasNoOther, HasOther, HasNoState, IsBare, KeepsSome}
-use Rattle.store.specs.Ranges.{IsFit}
-use Rattle.store.specs.Whole.{IsSound}
 
 -- What a refusal of `sqlite` to open a file means for a desk's store: memory and the device are
 -- told apart from a file that is damaged.

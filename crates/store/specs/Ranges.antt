@@ -3,14 +3,9 @@
 -- at most 600 bytes) is not said again.
 use Rattle.std.proofs.Common.{ℕ, ◌≡◌, ◌⊎◌, Bool, ◌&&◌, ◌||◌, ◌==◌, nat_le, ◌<◌, ◌≤◌, List, length}
 use Rattle.std.proofs.Common.{Option, Some, None}
-use Rattle.acceptor.specs.declared.ballot.Ballot.{Ballot}
-use Rattle.acceptor.specs.declared.entry.Entry.{Entry}
-use Rattle.acceptor.specs.declared.stored.Vote.{Vote}
-use Rattle.acceptor.specs.declared.stored.Stored.{Stored}
-use Rattle.acceptor.specs.Ballots.{no_ballot}
-use Rattle.learner.specs.Order.{IsAtMost}
-use Rattle.learner.specs.Ranges.{IsReal}
-use Rattle.learner.specs.Steps.{IsDesk}
+use Rattle.acceptor.specs.declared.{ballot.Ballot.Ballot, entry.Entry.Entry, stored.Vote.Vote}
+use Rattle.acceptor.specs.{declared.stored.Stored.Stored, Ballots.no_ballot}
+use Rattle.learner.specs.{Order.IsAtMost, Ranges.IsReal, Steps.IsDesk}
 use Rattle.store.specs.declared.home.Home.{Home}
 
 -- a desk of a hall of 3 or 5

@@ -1,14 +1,10 @@
 -- What the queries over the two tables give, and what a read of them finds (the project's own).
 use Rattle.std.specs.Prelude.{◌≡◌, List, map, Result, IfOk, OnOk, IsPermutation, IsSorted}
 use Rattle.std.specs.Global.{Vec}
-use Rattle.sqlite.specs.Order.{Row}
-use Rattle.sqlite.specs.State.{State, HasCleanDisk, IsUnchanged}
-use Rattle.acceptor.specs.declared.entry.Entry.{Entry}
-use Rattle.acceptor.specs.declared.stored.Stored.{Stored}
+use Rattle.sqlite.specs.{Order.Row, State.State, State.HasCleanDisk, State.IsUnchanged}
+use Rattle.acceptor.specs.declared.{entry.Entry.Entry, stored.Stored.Stored}
 use Rattle.learner.specs.Logs.{LogValue}
-use Rattle.store.specs.declared.home.Home.{Home}
-use Rattle.store.specs.Whole.{IsWhole, LogIsWhole}
-use Rattle.store.specs.Layout.{IsOurs}
+use Rattle.store.specs.{declared.home.Home.Home, Whole.IsWhole, Whole.LogIsWhole, Layout.IsOurs}
 use Rattle.store.specs.Holding.{HasRow, HasLog, shown_desk, shown_entry, by_first}
 use Rattle.store.specs.Kept.{Spares, HasNoState, HasNoOther, HasOther}
 
@@ -20,14 +16,12 @@ OnOurs old new Fact = HasCleanDisk new → IsOurs old.now.schema → Fact
 -- the rows of `desk`, in some order
 abbrev pub GivesDeskRows : {E : Type 0} → State → State → Result (Vec Row) E → Type 0
 GivesDeskRows old new r =
-    OnOurs old new
-    (IfOk r (λ rows. IsPermutation (map shown_desk (old.now.trees 0)) rows.items))
+    OnOurs old new (IfOk r (λ rows. IsPermutation (map shown_desk (old.now.trees 0)) rows.items))
 
 -- the rows of `entries`
 abbrev pub GivesLogRows : {E : Type 0} → State → State → Result (Vec Row) E → Type 0
 GivesLogRows old new r =
-    OnOurs old new
-    (IfOk r (λ rows. IsPermutation (map shown_entry (old.now.trees 1)) rows.items))
+    OnOurs old new (IfOk r (λ rows. IsPermutation (map shown_entry (old.now.trees 1)) rows.items))
 
 -- in order of their positions
 abbrev pub GivesInOrder : {E : Type 0} → State → State → Result (Vec Row) E → Type 0
@@ -44,8 +38,7 @@ GivesLog old new r = OnOurs old new (IfOk r (λ log. HasLog log.entries old.now.
 -- the row is no desk's with each field in the range of its column
 abbrev pub FindsNoDesk : State → State → Type 0
 FindsNoDesk old new =
-    OnOurs old new
-    ((home : Home) (s : Stored) → IsWhole home s → ¬ HasRow home s old.now.trees)
+    OnOurs old new ((home : Home) (s : Stored) → IsWhole home s → ¬ HasRow home s old.now.trees)
 
 -- the rows are no log's
 abbrev pub FindsNoLog : State → State → Type 0

@@ -1,13 +1,10 @@
 -- Why a call over SQL wants memory: SQLite refused it, or the values of a query's rows had none.
 use Rattle.std.specs.Prelude.{◌≡◌, ◌⊎◌, ℕ, List, Result, Ok, Err}
 use Rattle.std.specs.Global.{Vec}
-use Rattle.sqlite.specs.Order.{Row}
-use Rattle.sqlite.specs.declared.error.Error.{Error}
-use Rattle.sqlite.specs.declared.error.Error.TheVariants.{SqliteFailure}
-use Rattle.sqlite.specs.declared.error.ErrorCode.TheVariants.{OutOfMemory}
+use Rattle.sqlite.specs.{Order.Row, declared.error.ErrorCode.TheVariants.OutOfMemory}
+use Rattle.sqlite.specs.declared.error.Error.{Error, TheVariants.SqliteFailure}
 use Rattle.sqlite.specs.State.{State, HasCleanDisk, IsUnchanged, Executes, FailsToQuery, Shown}
-use Rattle.store.specs.declared.loading.ReadFault.{ReadFault}
-use Rattle.store.specs.declared.loading.ReadFault.TheVariants.{Sql}
+use Rattle.store.specs.declared.loading.ReadFault.{ReadFault, TheVariants.Sql}
 use Rattle.store.specs.Kept.{Spares}
 
 -- SQLite refuses memory

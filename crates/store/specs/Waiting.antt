@@ -1,12 +1,8 @@
 -- A state that a store has once the changes that wait are committed (the project's own).
 use Rattle.std.specs.Prelude.{◌≡◌, ℕ, List, length}
 use Rattle.sqlite.specs.State.{State}
-use Rattle.acceptor.specs.declared.entry.Entry.{Entry}
-use Rattle.acceptor.specs.declared.stored.Stored.{Stored}
-use Rattle.acceptor.specs.declared.stored.Change.{Change}
-use Rattle.store.specs.declared.home.Home.{Home}
-use Rattle.store.specs.Changes.{Leads}
-use Rattle.store.specs.Kept.{Keeps, MayLeave}
+use Rattle.acceptor.specs.declared.{entry.Entry.Entry, stored.Stored.Stored, stored.Change.Change}
+use Rattle.store.specs.{declared.home.Home.Home, Changes.Leads, Kept.Keeps, Kept.MayLeave}
 
 -- the connection keeps a state, with a log of this length, that becomes this one by the changes
 pub record KeepsBefore (home : Home) (len : ℕ) (changes : List Change) (c : State) (s : Stored)

@@ -2,9 +2,7 @@
 use Rattle.std.specs.Prelude.{◌<◌, ◌≤◌, ◌^◌, List, length, Option, Some, None}
 use Rattle.std.specs.List.{AllByRecursion}
 use Rattle.acceptor.specs.Entries.{IsId, IsText}
-use Rattle.acceptor.specs.declared.entry.Entry.{Entry}
-use Rattle.acceptor.specs.declared.stored.Vote.{Vote}
-use Rattle.acceptor.specs.declared.stored.Stored.{Stored}
+use Rattle.acceptor.specs.declared.{entry.Entry.Entry, stored.Vote.Vote, stored.Stored.Stored}
 use Rattle.store.specs.declared.home.Home.{Home}
 use Rattle.store.specs.Ranges.{IsHome, StoredIsFit, most_entries}
 

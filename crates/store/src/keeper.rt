@@ -3,17 +3,13 @@
 ghost use Rattle.std.specs.Prelude.{◌≡◌, ◌≢◌, ◌↔◌, ℕ, Bool, List, Result, IsTrue, IfOk, OnErr};
 ghost use Rattle.std.specs.Prelude.{false, true};
 ghost use Rattle.acceptor.specs.declared.entry.Entry.{Entry};
-ghost use Rattle.acceptor.specs.declared.stored.Stored.{Stored as State};
-ghost use Rattle.acceptor.specs.declared.stored.Change.{Change as Step};
+ghost use Rattle.acceptor.specs.declared.stored.{Stored.Stored as State, Change.Change as Step};
 ghost use Rattle.learner.specs.Logs.{LogValue};
-ghost use Rattle.store.specs.declared.home.Home.{Home as Place};
-ghost use Rattle.store.specs.declared.fault.SaveFault.{SaveFault as Refusal};
-ghost use Rattle.store.specs.declared.fault.LoadFault.{LoadFault as Unloaded};
-ghost use Rattle.store.specs.Ranges.{IsHome, IsFit};
-ghost use Rattle.store.specs.Whole.{IsSound};
+ghost use Rattle.store.specs.{declared.home.Home.Home as Place, Whole.IsSound, Keeping.SettlesFor};
+ghost use Rattle.store.specs.{declared.fault.SaveFault.SaveFault as Refusal, Ranges.IsHome};
+ghost use Rattle.store.specs.{declared.fault.LoadFault.LoadFault as Unloaded, Ranges.IsFit};
 ghost use Rattle.store.specs.Keeping.{most_failures, HoldsOnly, LeavesOf, Counts, CountsOne};
-ghost use Rattle.store.specs.Keeping.{IsLoaded, FindsNoMore, IsDamaged, FindsOldOrKept};
-ghost use Rattle.store.specs.Keeping.{StaysKept, SettlesFor};
+ghost use Rattle.store.specs.Keeping.{IsLoaded, FindsNoMore, IsDamaged, FindsOldOrKept, StaysKept};
 
 use crate::fault::{LoadFault, SaveFault};
 use crate::home::Home;

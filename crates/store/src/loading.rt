@@ -1,14 +1,12 @@
 //! What the two tables have: the row of the desk, and then the log.
 
 ghost use Rattle.std.specs.Prelude.{◌≡◌, ◌≢◌, [], ◌∷◌, IfOk, IfSome, OnOk, None, length};
-ghost use Rattle.sqlite.specs.State.{HasCleanDisk, IsUnchanged};
-ghost use Rattle.sqlite.specs.Held.{state};
-ghost use Rattle.store.specs.Ranges.{IsHome, IsFit, StoredIsFit};
-ghost use Rattle.store.specs.Whole.{IsWhole, LogIsWhole, IsSound};
-ghost use Rattle.store.specs.Kept.{Keeps, HasDesk, HasNoDesk, Spares};
+ghost use Rattle.sqlite.specs.{State.HasCleanDisk, State.IsUnchanged, Held.state};
+ghost use Rattle.store.specs.{Ranges.IsHome, Ranges.IsFit, Ranges.StoredIsFit, Whole.LogIsWhole};
+ghost use Rattle.store.specs.{Whole.IsWhole, Refusals.NamesWant, Refusals.ReadNamesWant};
+ghost use Rattle.store.specs.{Whole.IsSound, Kept.Keeps, Kept.HasDesk, Kept.HasNoDesk, Kept.Spares};
 ghost use Rattle.store.specs.Reads.{GivesDesk, GivesLog, FindsNoDesk, FindsNoLog, StaysAsItWas};
 ghost use Rattle.store.specs.Reads.{SparesOurs, FindsNoState, FindsNoOther, FindsOther};
-ghost use Rattle.store.specs.Refusals.{NamesWant, ReadNamesWant};
 
 use crate::home::Home;
 use crate::ranges::is_fit;

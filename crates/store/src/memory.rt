@@ -1,12 +1,11 @@
 //! The keeper in memory, for tests, which fails where a test asks for it.
 
-ghost use Rattle.std.specs.Prelude.{◌≡◌, ◌≤◌, ◌||◌, ◌==◌, Option, Some, None, Bool, true};
-ghost use Rattle.std.specs.Prelude.{false, IfOk, OnOk, OnErr, IfSome};
+ghost use Rattle.std.specs.Prelude.{◌≡◌, ◌≤◌, ◌||◌, ◌==◌, Option, Some, None, Bool, true, false};
+ghost use Rattle.std.specs.Prelude.{IfOk, OnOk, OnErr, IfSome};
 ghost use Rattle.std.proofs.Common.{sym, ◌∙◌};
 ghost use Rattle.acceptor.specs.Storing.{stored_after, log_after};
-ghost use Rattle.store.specs.Ranges.{IsHome, IsFit, home_at};
-ghost use Rattle.store.specs.Memory.{MemoryState, first_memory, is_stopped, nearer};
-ghost use Rattle.store.specs.Memory.{MemorySaves, MemoryLoads};
+ghost use Rattle.store.specs.{Ranges.IsHome, Ranges.IsFit, Ranges.home_at, Memory.MemoryLoads};
+ghost use Rattle.store.specs.Memory.{MemoryState, first_memory, is_stopped, nearer, MemorySaves};
 
 use crate::NoMemory;
 use crate::copying::{copy_log, copy_stored, copy_vote};

@@ -1,14 +1,11 @@
 //! Opening a store: the tables are made where there is nothing at all, and then looked at.
 
 ghost use Rattle.std.specs.Prelude.{◌≡◌, ◌⊎◌, false, IfOk};
-ghost use Rattle.sqlite.specs.State.{HasCleanDisk};
-ghost use Rattle.sqlite.specs.Held.{state};
-ghost use Rattle.store.specs.Ranges.{IsHome};
-ghost use Rattle.store.specs.Kept.{Spares, IsBare, KeepsSome};
+ghost use Rattle.sqlite.specs.{State.HasCleanDisk, Held.state};
+ghost use Rattle.store.specs.{Ranges.IsHome, Kept.Spares, Kept.IsBare, Refusals.no_memory};
+ghost use Rattle.store.specs.{Kept.KeepsSome, Opening.MakesBoth, Opening.WasBareOrOurs};
 ghost use Rattle.store.specs.Reads.{FindsNoState, FindsNoOther, FindsOther};
-ghost use Rattle.store.specs.Refusals.{no_memory};
 ghost use Rattle.store.specs.Opening.{refusal_of, Remains, FindsSound, FindsAgain, FindsFirst};
-ghost use Rattle.store.specs.Opening.{MakesBoth, WasBareOrOurs};
 
 use crate::fault::OpenFault;
 use crate::home::Home;

@@ -1,10 +1,8 @@
 //! The two queries that read a store.
 
-ghost use Rattle.sqlite.specs.State.{HasCleanDisk};
-ghost use Rattle.sqlite.specs.Held.{state};
+ghost use Rattle.sqlite.specs.{State.HasCleanDisk, Held.state};
 ghost use Rattle.store.specs.Reads.{GivesDeskRows, GivesLogRows, GivesInOrder, StaysAsItWas};
-ghost use Rattle.store.specs.Reads.{SparesOurs};
-ghost use Rattle.store.specs.Refusals.{NamesAnswer};
+ghost use Rattle.store.specs.{Reads.SparesOurs, Refusals.NamesAnswer};
 
 use sqlite::{Alter, Connection, Error, Row};
 

@@ -1,16 +1,14 @@
 //! The values of a row that a query gives, decoded: a desk with its state, and the log.
 
-ghost use Rattle.std.specs.Prelude.{◌≡◌, ◌≢◌, ◌<◌, ◌^◌, ℕ, pos, List, map, true, Option};
-ghost use Rattle.std.specs.Prelude.{Some, None, IfOk, IfSome};
+ghost use Rattle.std.specs.Prelude.{◌≡◌, ◌≢◌, ◌<◌, ◌^◌, ℕ, pos, List, map, true, Option, Some};
+ghost use Rattle.std.specs.Prelude.{None, IfOk, IfSome};
 ghost use Rattle.sqlite.specs.declared.types.Value.TheVariants.{Null, Int};
-ghost use Rattle.sqlite.specs.Order.{column};
-ghost use Rattle.sqlite.specs.Value.{owned};
+ghost use Rattle.sqlite.specs.{Order.column, Value.owned};
 ghost use Rattle.store.specs.Holding.{desk_values, vote_values, log_values, desk_columns};
 ghost use Rattle.store.specs.Holding.{vote_columns, entry_columns, IsRowOf, HasBallot, HasEntry};
 ghost use Rattle.acceptor.specs.Entries.{EntryValue, IsId, IsText};
 ghost use Rattle.acceptor.specs.declared.ballot.Ballot.{Ballot as Round};
-ghost use Rattle.acceptor.specs.declared.stored.Vote.{Vote as Given};
-ghost use Rattle.acceptor.specs.declared.stored.Stored.{Stored as State};
+ghost use Rattle.acceptor.specs.declared.stored.{Vote.Vote as Given, Stored.Stored as State};
 ghost use Rattle.store.specs.declared.home.Home.{Home as Place};
 ghost use Rattle.store.specs.Whole.{VoteIsWhole, IsWhole, LogIsWhole};
 

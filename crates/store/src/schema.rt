@@ -2,13 +2,11 @@
 //! have.
 
 ghost use Rattle.std.specs.Prelude.{◌≡◌, ◌↔◌, [], ◌∷◌, take, drop, true, false, IsTrue, OnOk};
-ghost use Rattle.sqlite.specs.State.{HasCleanDisk};
-ghost use Rattle.sqlite.specs.Held.{state};
+ghost use Rattle.sqlite.specs.{State.HasCleanDisk, Held.state};
 ghost use Rattle.acceptor.specs.Storing.{first_stored};
-ghost use Rattle.store.specs.Layout.{strict_column, keyed_table, desk_table, entries_table};
-ghost use Rattle.store.specs.Layout.{IsOurs, HasNoKey, HasNoRule, IsKeyed, no_schema};
-ghost use Rattle.store.specs.Kept.{Keeps, IsBare};
-ghost use Rattle.store.specs.Opening.{MakesBoth};
+ghost use Rattle.store.specs.Layout.{strict_column, keyed_table, desk_table, entries_table, IsOurs};
+ghost use Rattle.store.specs.Layout.{HasNoKey, HasNoRule, IsKeyed, no_schema};
+ghost use Rattle.store.specs.{Kept.Keeps, Kept.IsBare, Opening.MakesBoth};
 
 use crate::home::Home;
 use crate::statements::{number, small};

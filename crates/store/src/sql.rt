@@ -1,19 +1,15 @@
 //! The keeper over two tables of a database.
 
-ghost use Rattle.std.specs.Prelude.{◌≡◌, ◌≢◌, ◌==◌, ◌||◌, ◌⊎◌, ◌<◌, false, true, [], List};
-ghost use Rattle.std.specs.Prelude.{Err, IsTrue, IfOk, IfErr, length};
-ghost use Rattle.sqlite.specs.State.{HasCleanDisk};
-ghost use Rattle.sqlite.specs.Held.{state};
-ghost use Rattle.acceptor.specs.Entries.{EntryValue};
-ghost use Rattle.acceptor.specs.declared.stored.Stored.{Stored as State};
+ghost use Rattle.std.specs.Prelude.{◌≡◌, ◌≢◌, ◌==◌, ◌||◌, ◌⊎◌, ◌<◌, false, true, [], List, Err};
+ghost use Rattle.std.specs.Prelude.{IsTrue, IfOk, IfErr, length};
+ghost use Rattle.sqlite.specs.{State.HasCleanDisk, Held.state};
+ghost use Rattle.acceptor.specs.{Entries.EntryValue, declared.stored.Stored.Stored as State};
 ghost use Rattle.store.specs.Ranges.{IsHome, IsFit, is_housed, home_at};
-ghost use Rattle.store.specs.Whole.{IsSound};
+ghost use Rattle.store.specs.{Whole.IsSound, Refusals.LoadLacksMemory, Opening.Opens};
 ghost use Rattle.store.specs.Keeping.{most_failures, CountsOne, StaysKept};
 ghost use Rattle.store.specs.model.Unique.{alone_after, leads_nowhere};
 ghost use Rattle.store.specs.Kept.{Keeps, MayLeave, MayBreak};
-ghost use Rattle.store.specs.Waiting.{KeepsBefore, MayLeaveBefore};
-ghost use Rattle.store.specs.Refusals.{LoadLacksMemory};
-ghost use Rattle.store.specs.Opening.{Opens, Refuses};
+ghost use Rattle.store.specs.{Waiting.KeepsBefore, Waiting.MayLeaveBefore, Opening.Refuses};
 
 use crate::copying::copy_change;
 use crate::fault::{LoadFault, OpenFault, SaveFault};

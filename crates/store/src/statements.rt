@@ -2,16 +2,12 @@
 
 ghost use Rattle.std.specs.Prelude.{◌≡◌, ◌<◌, ◌^◌, pos, ◌≤◌, Some, List, length};
 ghost use Rattle.sqlite.specs.State.{HasCleanDisk, Survives};
-ghost use Rattle.sqlite.specs.Held.{state};
-ghost use Rattle.sqlite.specs.Value.{owned};
-ghost use Rattle.sqlite.specs.declared.types.Value.TheVariants.{Int};
-ghost use Rattle.acceptor.specs.Entries.{EntryValue};
-ghost use Rattle.acceptor.specs.Storing.{log_after};
+ghost use Rattle.sqlite.specs.{Held.state, Value.owned, declared.types.Value.TheVariants.Int};
+ghost use Rattle.acceptor.specs.{Entries.EntryValue, Storing.log_after};
 ghost use Rattle.acceptor.specs.declared.stored.Change.TheVariants.{Promised, Voted, Tried};
 ghost use Rattle.acceptor.specs.declared.stored.Change.TheVariants.{Appended};
-ghost use Rattle.store.specs.Ranges.{most_entries};
+ghost use Rattle.store.specs.{Ranges.most_entries, Inside.TellsLength};
 ghost use Rattle.store.specs.Inside.{MakesInside, MakesPlain, MakesAllInside, SavesAllAt};
-ghost use Rattle.store.specs.Inside.{TellsLength};
 
 use acceptor::ballot::Ballot;
 use acceptor::entry::Entry;

@@ -1,10 +1,8 @@
 //! Whether a connection still answers: it is asked the empty statement.
 
 ghost use Rattle.std.specs.Prelude.{◌≡◌, IsTrue, OnOk};
-ghost use Rattle.sqlite.specs.State.{HasCleanDisk, IsUnchanged};
-ghost use Rattle.sqlite.specs.Held.{state};
-ghost use Rattle.store.specs.Kept.{Spares};
-ghost use Rattle.store.specs.Refusals.{no_memory};
+ghost use Rattle.sqlite.specs.{State.HasCleanDisk, State.IsUnchanged, Held.state};
+ghost use Rattle.store.specs.{Kept.Spares, Refusals.no_memory};
 
 use sqlite::{Alter, Connection, Error, ErrorCode};
 

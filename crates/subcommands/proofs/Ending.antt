@@ -1,24 +1,15 @@
 -- A task that asks a desk ends.
 use Rattle.std.proofs.Common.{◌≡◌, ◌⊎◌, Bool, ℕ, List, Option, Result, Ok, Err, IfErr, OnOk, inl}
 use Rattle.std.proofs.Common.{arith, inr, refl}
-use Rattle.desk_choice.specs.Resolving.{Resolves}
-use Rattle.desk_choice.specs.declared.resolving.DeskAddress.{DeskAddress}
+use Rattle.desk_choice.specs.{Resolving.Resolves, declared.resolving.DeskAddress.DeskAddress}
 use Rattle.arguments.specs.declared.places.Place.{Place}
 use Rattle.batch.specs.Dialing.{Dialed, Told, place_of}
-use Rattle.batch.specs.declared.asking.Receiver.{Receiver}
-use Rattle.batch.specs.declared.dialing.Contact.{Contact}
-use Rattle.desk_requests.specs.Statuses.{status_of}
-use Rattle.desk_requests.specs.declared.fault.DeskFault.{DeskFault}
+use Rattle.batch.specs.declared.{asking.Receiver.Receiver, dialing.Contact.Contact}
+use Rattle.desk_requests.specs.{Statuses.status_of, declared.fault.DeskFault.DeskFault}
+use Rattle.subcommands.specs.Places.{EndsAs, EndsAt, IsAsked, Reach, looking}
 use Rattle.desk_requests.specs.declared.fault.DeskFault.TheVariants as fault
 use Rattle.keys.specs.declared.key_file.fault.KeyFileFault.TheVariants as key
 use Rattle.lines.specs.declared.fault.RunFault.TheVariants as run
-use Rattle.subcommands.specs.Places.{EndsAs, EndsAt, IsAsked, MissesDesk, Reach, looking}
-
--- no desk was found
-pub missed : (p : Place) (patience status : ℕ) (r : Reach) (Left : Type 0)
-    (Does : Receiver → Contact → Told → Type 0) → MissesDesk status p patience r → Left
-    → EndsAt p patience status r Left Does
-missed p patience status r Left Does misses left = inl (misses, left)
 
 -- one was, and this was done with it
 pub done : (p : Place) (patience status : ℕ) (r : Reach) (Left : Type 0)

@@ -1,11 +1,9 @@
 -- A desk that is to stop, and is not named.
-use Rattle.std.proofs.Common.{◌≡◌, None, Some, true}
-use Rattle.arguments.specs.declared.places.Place.{Place}
+use Rattle.std.proofs.Common.{◌≡◌, true}
+use Rattle.arguments.specs.declared.{places.Place.Place, task.ClientRequest.ClientRequest}
+use Rattle.subcommands.specs.{Asking.lacks_name, Places.NamesDesk}
 use Rattle.arguments.specs.declared.places.Place.TheVariants as place
-use Rattle.arguments.specs.declared.task.ClientRequest.{ClientRequest}
 use Rattle.arguments.specs.declared.task.ClientRequest.TheVariants as request
-use Rattle.subcommands.specs.Asking.{lacks_name}
-use Rattle.subcommands.specs.Places.{NamesDesk}
 
 -- the arguments name none
 pub names_none : (p : Place) (r : ClientRequest) → lacks_name p r ≡ true → NamesDesk p → ⊥

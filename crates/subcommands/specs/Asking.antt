@@ -2,26 +2,20 @@
 -- project's own).
 use Rattle.std.specs.Prelude.{◌≡◌, ◌⊎◌, ℕ, Bool, true, false, List, Option, None}
 use Rattle.std.specs.Io.KnownBytes.{Keeps}
-use Rattle.arguments.specs.declared.places.Place.{Place}
-use Rattle.arguments.specs.declared.places.Place.TheVariants as place
+use Rattle.arguments.specs.declared.{places.Place.Place, task.ClientRequest.ClientRequest}
 use Rattle.arguments.specs.declared.task.LogFormOption.{LogFormOption as AskedForm}
-use Rattle.arguments.specs.declared.task.LogFormOption.TheVariants as asked
-use Rattle.arguments.specs.declared.task.ClientRequest.{ClientRequest}
-use Rattle.arguments.specs.declared.task.ClientRequest.TheVariants as request
-use Rattle.batch.specs.Dialing.{Told}
-use Rattle.batch.specs.declared.asking.Receiver.{Receiver}
-use Rattle.batch.specs.declared.dialing.Contact.{Contact}
-use Rattle.batch.specs.declared.newest_asked.RoundSheet.{RoundSheet}
+use Rattle.batch.specs.{Dialing.Told, declared.newest_asked.RoundSheet.RoundSheet}
+use Rattle.batch.specs.declared.{asking.Receiver.Receiver, dialing.Contact.Contact}
 use Rattle.desk_requests.specs.Errands.{DoesErrand, FailsErrand}
-use Rattle.desk_requests.specs.Logs.{FailsTold, PrintsTold}
-use Rattle.desk_requests.specs.Newest.{FailsToPrint, PrintsNewest}
-use Rattle.desk_requests.specs.Statuses.{status_of}
-use Rattle.desk_requests.specs.declared.fault.DeskFault.{DeskFault}
-use Rattle.desk_requests.specs.declared.logs.LogForm.{LogForm}
-use Rattle.desk_requests.specs.declared.logs.LogForm.TheVariants as form
-use Rattle.desk_requests.specs.declared.requests.Errand.{Errand}
-use Rattle.log_rows.specs.declared.writing.ShownEntries.TheVariants as shown
+use Rattle.desk_requests.specs.{Logs.FailsTold, Statuses.status_of, declared.requests.Errand.Errand}
+use Rattle.desk_requests.specs.{Logs.PrintsTold, Newest.FailsToPrint, Newest.PrintsNewest}
+use Rattle.desk_requests.specs.declared.{fault.DeskFault.DeskFault, logs.LogForm.LogForm}
 use Rattle.subcommands.specs.Places.{EndsAt, Reach}
+use Rattle.arguments.specs.declared.places.Place.TheVariants as place
+use Rattle.arguments.specs.declared.task.LogFormOption.TheVariants as asked
+use Rattle.arguments.specs.declared.task.ClientRequest.TheVariants as request
+use Rattle.desk_requests.specs.declared.logs.LogForm.TheVariants as form
+use Rattle.log_rows.specs.declared.writing.ShownEntries.TheVariants as shown
 
 -- the desk is one of a file's hall, and is named where it did what was asked
 abbrev pub is_of_file : Place → Bool
@@ -30,13 +24,7 @@ is_of_file (place.File file desk key) = true
 
 abbrev pub errand_of : (names : Bool) → Receiver → Contact → ClientRequest → Errand
 errand_of names one there request =
-    record {
-      hall = one.hall;
-      desk = one.desk;
-      contact = there;
-      request = request;
-      names = names;
-    }
+    record { hall = one.hall; desk = one.desk; contact = there; request = request; names = names }
 
 -- a desk is to stop, and none is named
 abbrev pub lacks_name : Place → ClientRequest → Bool
@@ -81,8 +69,7 @@ EndsSheet status one sheet t old new =
 
 abbrev pub EndsNewest : Place → ℕ → RoundSheet → ℕ → Reach → (old new : Option (List ℕ)) → Type 0
 EndsNewest p patience sheet status r old new =
-    EndsAt p patience status r (Keeps old new)
-    (λ one _ t. EndsSheet status one sheet t old new)
+    EndsAt p patience status r (Keeps old new) (λ one _ t. EndsSheet status one sheet t old new)
 
 -- in which form a log is printed
 abbrev pub log_form : AskedForm → LogForm
@@ -101,5 +88,4 @@ EndsCopy status one form from t old new =
 abbrev pub EndsCopyLog : Place → ℕ → (from : ℕ) → LogForm → ℕ → Reach
     → (old new : Option (List ℕ)) → Type 0
 EndsCopyLog p patience from form status r old new =
-    EndsAt p patience status r (Keeps old new)
-    (λ one _ t. EndsCopy status one form from t old new)
+    EndsAt p patience status r (Keeps old new) (λ one _ t. EndsCopy status one form from t old new)

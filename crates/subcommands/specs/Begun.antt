@@ -1,8 +1,7 @@
 -- Whether a hall's day has begun: what those of its desks report that answer (the project's own).
-use Rattle.std.specs.Prelude.{◌≡◌, ◌⊎◌, ◌+◌, ◌-◌, ◌∷◌, ◌↔◌, ◌||◌, [], ℕ, Bool, true, false}
-use Rattle.std.specs.Prelude.{IsTrue, List, Option, Result, Ok, max, slice_index}
-use Rattle.std.specs.Borrow.{Bor}
-use Rattle.std.specs.Io.KnownBytes.{Keeps}
+use Rattle.std.specs.Prelude.{◌≡◌, ◌⊎◌, ◌+◌, ◌-◌, ◌∷◌, ◌↔◌, ◌||◌, [], ℕ, Bool, true, false, IsTrue}
+use Rattle.std.specs.Prelude.{List, Option, Result, Ok, max, slice_index}
+use Rattle.std.specs.{Borrow.Bor, Io.KnownBytes.Keeps}
 use Rattle.desk_choice.specs.Keys.{IsKeyOf, key_file_of, naming}
 use Rattle.arguments.specs.declared.task.HallService.{HallService}
 use Rattle.batch.specs.Dialing.{Adds, Dialed, Place, asked_so}
@@ -10,11 +9,9 @@ use Rattle.batch.specs.declared.fault.BatchFault.{BatchFault}
 use Rattle.client.specs.Standings.{status_request}
 use Rattle.desk_requests.specs.declared.polling.Inquiry.{Inquiry}
 use Rattle.hall_file.specs.declared.hall_file.HallFile.{HallFile}
-use Rattle.wire.specs.Spelling.{lengths_of}
-use Rattle.wire.specs.declared.frame.FrameBody.{FrameBody}
+use Rattle.wire.specs.{Spelling.lengths_of, declared.frame.FrameBody.FrameBody}
+use Rattle.subcommands.specs.{Standings.Asks, declared.begun.KnownDesks.KnownDesks}
 use Rattle.wire.specs.declared.frame.FrameBody.TheVariants as what
-use Rattle.subcommands.specs.Standings.{Asks}
-use Rattle.subcommands.specs.declared.begun.KnownDesks.{KnownDesks}
 
 -- what a desk says that was asked how it is: the length of its log, and that which the desk of this
 -- number reported to it
@@ -26,11 +23,7 @@ known_by lost _ = record { answers = false; have = 0; had = 0 }
 -- the greatest that two report
 abbrev pub joined : KnownDesks → KnownDesks → KnownDesks
 joined a b =
-    record {
-      answers = a.answers || b.answers;
-      have = max a.have b.have;
-      had = max a.had b.had;
-    }
+    record { answers = a.answers || b.answers; have = max a.have b.have; had = max a.had b.had }
 
 -- none has a command, or heard of one
 abbrev pub IsFree : KnownDesks → Type 0
@@ -52,10 +45,8 @@ AsksEach q lost desk [] k old new =
     (k ≡ record { answers = false; have = 0; had = 0 }) × (old ≡ new)
 AsksEach q lost desk (address ∷ addresses) k old new =
     (answer : Result FrameBody BatchFault) × (mid : Option (List Dialed)) × (more : KnownDesks)
-    × Adds (place_at q address.now) old mid
-    (asked_so (status_request q.hall desk) answer ∷ [])
-    × AsksEach q lost (desk + 1) addresses more mid new
-    × (k ≡ joined (known_by lost answer) more)
+    × Adds (place_at q address.now) old mid (asked_so (status_request q.hall desk) answer ∷ [])
+    × AsksEach q lost (desk + 1) addresses more mid new × (k ≡ joined (known_by lost answer) more)
 
 -- The desks of an inquiry were asked, and a store may be made where none that answers has a command
 -- or heard of one, and one answers, or the whole hall is new. Where it may, nothing is said.
@@ -63,8 +54,7 @@ abbrev pub MayMake : Inquiry → ℕ → (new_hall may : Bool) → (old new : Op
     → (said saying : Option (List ℕ)) → Type 0
 MayMake q desk new_hall may old new said saying =
     (k : KnownDesks) × AsksEach q desk 1 q.addresses.now k old new
-    × (IsTrue may ↔ MayBegin new_hall k)
-    × (IsTrue may → Keeps said saying)
+    × (IsTrue may ↔ MayBegin new_hall k) × (IsTrue may → Keeps said saying)
 
 -- The desks of this hall were asked so at these addresses, under its key, for two seconds each, by
 -- the desk that is wanted.
@@ -72,8 +62,7 @@ abbrev pub HasAsked : Bor (List ℕ) → HallService → HallFile → List (List
     → (old new : Option (List Dialed)) → Type 0
 HasAsked file wanted hall texts may old new =
     (q : Inquiry) × (key : Option (List ℕ))
-    × IsKeyOf (key_file_of (naming file wanted.key) hall) key
-    × Asks q hall.hall texts key 2
+    × IsKeyOf (key_file_of (naming file wanted.key) hall) key × Asks q hall.hall texts key 2
     × (k : KnownDesks) × AsksEach q wanted.desk 1 q.addresses.now k old new
     × (IsTrue may ↔ MayBegin wanted.new_hall k)
 

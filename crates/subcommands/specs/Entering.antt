@@ -1,17 +1,12 @@
 -- A command, or those of an input, entered at a desk (the project's own).
 use Rattle.std.specs.Prelude.{◌≡◌, ◌⊎◌, ℕ, Bool, true, List, Option, None, Some, IsTrue, codes}
-use Rattle.std.specs.Borrow.{Bor}
-use Rattle.std.specs.Io.KnownBytes.{Keeps}
-use Rattle.std.specs.List.{join_by}
+use Rattle.std.specs.{Borrow.Bor, Io.KnownBytes.Keeps, List.join_by}
 use Rattle.desk_choice.specs.Seeking.{no_memory}
-use Rattle.arguments.specs.declared.places.Place.{Place}
-use Rattle.arguments.specs.declared.task.EnterOptions.{EnterOptions}
+use Rattle.arguments.specs.declared.{places.Place.Place, task.EnterOptions.EnterOptions}
 use Rattle.batch.specs.Dialing.{Dialed, Told}
-use Rattle.batch.specs.Probing.{KnowsAwait}
-use Rattle.batch.specs.declared.asking.Receiver.{Receiver}
+use Rattle.batch.specs.{Probing.KnowsAwait, declared.asking.Receiver.Receiver}
 use Rattle.desk_requests.specs.Entering.{EntersInput, EntersOne, FailsInput, FailsOne, IsEnterable}
-use Rattle.desk_requests.specs.Entering.{IsUnenterable}
-use Rattle.desk_requests.specs.Statuses.{status_of}
+use Rattle.desk_requests.specs.{Entering.IsUnenterable, Statuses.status_of}
 use Rattle.desk_requests.specs.declared.fault.DeskFault.{DeskFault}
 use Rattle.lines.specs.Bytes.{Sides}
 use Rattle.subcommands.specs.Places.{EndsAt, Reach}
@@ -59,8 +54,7 @@ IsUnfit f id waits text = IsTrue (is_looked_at id waits) × IsUnenterable f text
 
 -- nothing was asked or written, by this fault
 abbrev pub EndsUnsent : DeskFault → ℕ → Reach → (old new : Option (List ℕ)) → Type 0
-EndsUnsent f status r old new =
-    (status ≡ status_of f) × (r.dialed ≡ r.dialed_then) × Keeps old new
+EndsUnsent f status r old new = (status ≡ status_of f) × (r.dialed ≡ r.dialed_then) × Keeps old new
 
 -- Memory ran out; or the text of these words was not fit, and nothing was asked or written; or it
 -- was fit, and it was entered, or that failed.

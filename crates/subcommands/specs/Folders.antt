@@ -2,11 +2,9 @@
 -- project's own).
 use Rattle.std.specs.Prelude.{◌≡◌, ◌⊎◌, ◌++◌, ◌∷◌, [], ℕ, List, Option, codes}
 use Rattle.std.specs.Io.KnownBytes.{Appends}
-use Rattle.desk_requests.specs.Statuses.{status_of}
-use Rattle.desk_requests.specs.declared.fault.DeskFault.{DeskFault}
-use Rattle.subcommands.specs.declared.folders.File.{File as Made}
+use Rattle.desk_requests.specs.{Statuses.status_of, declared.fault.DeskFault.DeskFault}
+use Rattle.subcommands.specs.declared.folders.{File.File as Made, Folder.Folder}
 use Rattle.subcommands.specs.declared.folders.File.TheVariants.{Hall, Key, EntryKey}
-use Rattle.subcommands.specs.declared.folders.Folder.{Folder}
 use Rattle.subcommands.specs.declared.folders.Folder.TheVariants.{Here, Desk, Table, Board}
 use Rattle.subcommands.specs.declared.folders.HallTexts.{HallTexts}
 

@@ -3,12 +3,10 @@ use Rattle.std.specs.Prelude.{◌≡◌, ◌⊎◌, ℕ, List, Option, Result, O
 use Rattle.desk_choice.specs.Resolving.{FailsToResolve, Outside, Resolves}
 use Rattle.desk_choice.specs.declared.resolving.DeskAddress.{DeskAddress}
 use Rattle.arguments.specs.declared.places.Place.{Place}
-use Rattle.arguments.specs.declared.places.Place.TheVariants as place
 use Rattle.batch.specs.Dialing.{Dialed, Told, place_of}
-use Rattle.batch.specs.declared.asking.Receiver.{Receiver}
-use Rattle.batch.specs.declared.dialing.Contact.{Contact}
-use Rattle.desk_requests.specs.Statuses.{status_of}
-use Rattle.desk_requests.specs.declared.fault.DeskFault.{DeskFault}
+use Rattle.batch.specs.declared.{asking.Receiver.Receiver, dialing.Contact.Contact}
+use Rattle.desk_requests.specs.{Statuses.status_of, declared.fault.DeskFault.DeskFault}
+use Rattle.arguments.specs.declared.places.Place.TheVariants as place
 
 -- what became of connections before a task and afterwards, and what the fault stream had before it
 pub record Reach : Type 0 where

@@ -1,13 +1,10 @@
 -- What is asked of a desk that is to serve the hall of a file (the project's own).
 use Rattle.std.specs.Prelude.{◌≡◌, ◌⊎◌, ℕ, Bool, true, false, List, Option, None, Some, codes, map}
-use Rattle.std.specs.Prelude.{option_map}
-use Rattle.std.specs.Borrow.{Bor}
-use Rattle.std.specs.Path.{path_join}
+use Rattle.std.specs.{Prelude.option_map, Borrow.Bor, Path.path_join}
 use Rattle.hall_file.specs.Halls.{folder_of}
 use Rattle.arguments.specs.declared.task.HallService.{HallService}
-use Rattle.hall_file.specs.declared.service.StoreOrigin.{StoreOrigin}
+use Rattle.hall_file.specs.declared.service.{StoreOrigin.StoreOrigin, Service.Service}
 use Rattle.hall_file.specs.declared.service.StoreOrigin.TheVariants as making
-use Rattle.hall_file.specs.declared.service.Service.{Service}
 
 -- `--new` makes a store, and without it one has to be there
 abbrev pub making_of : (makes : Bool) → StoreOrigin
@@ -16,8 +13,7 @@ making_of false = making.Open
 
 -- no path, or that of `entry.key` beside the hall's file
 abbrev pub IsBeside : List ℕ → Option (List ℕ) → Type 0
-IsBeside file path =
-    (path ≡ None) ⊎ (path ≡ Some (path_join (folder_of file) (codes "entry.key")))
+IsBeside file path = (path ≡ None) ⊎ (path ≡ Some (path_join (folder_of file) (codes "entry.key")))
 
 -- the path of the entry key's file: the one that is wanted, or else such a one
 abbrev pub IsEntryKeyFile : Option (Bor (List ℕ)) → List ℕ → Option (List ℕ) → Type 0

@@ -1,20 +1,16 @@
 -- How the desks of a hall are, printed once or again and again (the project's own).
 use Rattle.std.specs.Prelude.{◌≡◌, ◌⊎◌, ◌≤◌, ℕ, Bool, true, false, List, Option, length, map}
-use Rattle.std.specs.Prelude.{option_map}
-use Rattle.std.specs.Io.KnownBytes.{Keeps}
-use Rattle.desk_choice.specs.Files.{IsOfFile}
+use Rattle.std.specs.{Prelude.option_map, Io.KnownBytes.Keeps}
+use Rattle.desk_choice.specs.{Files.IsOfFile, Resolving.IsKeyless, Resolving.IsSaid}
 use Rattle.desk_choice.specs.Keys.{FailsKey, IsKeyOf, Naming, naming}
-use Rattle.desk_choice.specs.Resolving.{IsKeyless, IsSaid}
 use Rattle.arguments.specs.declared.places.DeskPlaces.{DeskPlaces}
-use Rattle.arguments.specs.declared.places.DeskPlaces.TheVariants as desks
 use Rattle.desk_requests.specs.Polling.{FailsReport, Outside, Reports}
-use Rattle.desk_requests.specs.Statuses.{status_of}
-use Rattle.desk_requests.specs.Watching.{FailsWatch, HasWatched}
-use Rattle.desk_requests.specs.declared.fault.DeskFault.{DeskFault}
-use Rattle.desk_requests.specs.declared.polling.Inquiry.{Inquiry}
+use Rattle.desk_requests.specs.{Statuses.status_of, Watching.FailsWatch, Watching.HasWatched}
+use Rattle.desk_requests.specs.declared.{fault.DeskFault.DeskFault, polling.Inquiry.Inquiry}
 use Rattle.hall_file.specs.Halls.{texts_of}
 use Rattle.standings.specs.declared.forms.Form.{Form}
 use Rattle.batch.specs.Dialing.{Dialed}
+use Rattle.arguments.specs.declared.places.DeskPlaces.TheVariants as desks
 
 -- at most five desks are asked
 abbrev pub AreFew : DeskPlaces → Type 0
@@ -25,8 +21,7 @@ AreFew (desks.File file key) = Unit {0}
 -- that failed
 abbrev pub EndsInquiry : ℕ → Inquiry → Form → (watches : Bool) → Outside → Type 0
 EndsInquiry status q form false o =
-    Reports form q status o
-    ⊎ ((f : DeskFault) × (status ≡ status_of f) × FailsReport f form q o)
+    Reports form q status o ⊎ ((f : DeskFault) × (status ≡ status_of f) × FailsReport f form q o)
 EndsInquiry status q form true o =
     ((status ≡ 0) × HasWatched form q o)
     ⊎ ((f : DeskFault) × (status ≡ status_of f) × FailsWatch f form q o)
@@ -58,14 +53,12 @@ pub record Asks (q : Inquiry) (hall : ℕ) (addresses : List (List ℕ)) (key : 
 abbrev pub EndsAddresses : ℕ → (hall : ℕ) → List (List ℕ) → Option (List ℕ) → ℕ → Form
     → (watches all : Bool) → Outside → Type 0
 EndsAddresses status hall addresses key patience form watches all o =
-    (q : Inquiry) × Asks q hall addresses key patience
-    × EndsAsked all status q form watches o
+    (q : Inquiry) × Asks q hall addresses key patience × EndsAsked all status q form watches o
 
 -- no desk was asked and nothing printed, by such a fault
 abbrev pub EndsUnasked : (DeskFault → Type 0) → ℕ → Outside → Type 0
 EndsUnasked Is status o =
-    (f : DeskFault) × (status ≡ status_of f) × Is f × (o.dialed ≡ o.dialed_then)
-    × Keeps o.old o.new
+    (f : DeskFault) × (status ≡ status_of f) × Is f × (o.dialed ≡ o.dialed_then) × Keeps o.old o.new
 
 -- the file gives no hall, or its key cannot be read, or memory ran out
 abbrev pub EndsFile : ℕ → Naming → Outside → Type 0
@@ -77,6 +70,5 @@ EndsStatus (desks.Addresses hall addresses key) patience form watches all status
     ⊎ ((k : Option (List ℕ)) × IsKeyOf (option_map (λ k. k.now) key) k
     × EndsAddresses status hall (map (λ a. a.now) addresses.now) k patience form watches all o)
 EndsStatus (desks.File file key) patience form watches all status o =
-    EndsFile status (naming file key) o
-    ⊎ IsSaid (naming file key)
+    EndsFile status (naming file key) o ⊎ IsSaid (naming file key)
     (λ hall k. EndsAddresses status hall.hall (texts_of hall) k patience form watches all o)

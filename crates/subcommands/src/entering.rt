@@ -4,8 +4,7 @@ ghost use Rattle.std.specs.Prelude.{◌≡◌, IfErr, IfOk, OnOk, string_bytes};
 ghost use Rattle.desk_choice.specs.Seeking.{no_memory};
 ghost use Rattle.lines.specs.Bytes.{sides};
 ghost use Rattle.subcommands.specs.Entering.{EndsEnter, EndsLines, EndsWords, IsFit, IsUnfit};
-ghost use Rattle.subcommands.specs.Entering.{is_looked_at, spaced};
-ghost use Rattle.subcommands.specs.Places.{reach};
+ghost use Rattle.subcommands.specs.{Entering.is_looked_at, Entering.spaced, Places.reach};
 
 use crate::finding::{contact_of, found_at};
 use crate::reached::HallSearch;

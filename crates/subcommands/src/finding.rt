@@ -1,7 +1,6 @@
 //! The desk that a task is for.
 
-ghost use Rattle.std.specs.Prelude.{◌≡◌, ◌∷◌, List, Option, IfErr, IfOk, OnOk, string_bytes};
-ghost use Rattle.std.specs.Io.KnownBytes.{Keeps};
+ghost use Rattle.std.specs.{Prelude.IfErr, Prelude.IfOk, Prelude.OnOk, Io.KnownBytes.Keeps};
 ghost use Rattle.desk_choice.specs.Resolving.{Resolves, outside};
 ghost use Rattle.subcommands.specs.Places.{IsAsked, MissesDesk, NamesDesk, reach};
 

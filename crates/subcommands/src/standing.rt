@@ -106,8 +106,7 @@ fn inquire<D: Dial, W: Write, F: Write>(
 
 /// The addresses of a hall's file, desk 1 first.
 pub fn addresses_of<'a>(alloc: Global, hall: &'a HallFile) -> Result<Vec<&'a str>, AllocError>
-    ensures { IfOk result (λ texts.
-        map (λ t. t.now) texts.items ≡ texts_of hall.now) }
+    ensures { IfOk result (λ texts. map (λ t. t.now) texts.items ≡ texts_of hall.now) }
 {
     let mut texts = Vec::new(alloc);
     for desk in &hall.desks {

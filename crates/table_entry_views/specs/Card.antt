@@ -2,26 +2,19 @@
 use Rattle.std.specs.Prelude.{ℕ, Bool, true, false, if◌then◌else◌, List, [], ◌∷◌, ◌++◌, codes}
 use Rattle.std.specs.Prelude.{decimal, flat_map, Option, unwrap_or}
 use Rattle.std.specs.List.{list_any}
-use Rattle.attempts.specs.declared.Unit.{Unit as Measure}
+use Rattle.attempts.specs.declared.{Unit.Unit as Measure, Value.Value}
 use Rattle.attempts.specs.declared.Unit.TheVariants.{Time, Moves, Multi}
-use Rattle.formats.specs.Events.{format_name, unit_of}
-use Rattle.formats.specs.declared.events.Format.{Format}
-use Rattle.attempts.specs.declared.Value.{Value}
+use Rattle.formats.specs.{Events.format_name, Events.unit_of, declared.events.Format.Format}
 use Rattle.round_words.specs.Words.{round_name, round_words, settings_words}
 use Rattle.texts.specs.Spelling.{cutoff_text, limit_text, was_text}
-use Rattle.texts.specs.declared.command.Command.{Command}
-use Rattle.texts.specs.declared.command.RoundId.{RoundId}
-use Rattle.texts.specs.declared.command.Settings.{Settings}
+use Rattle.texts.specs.declared.command.{Command.Command, RoundId.RoundId, Settings.Settings}
 use Rattle.markup.specs.Pieces.{fill}
 use Rattle.table_views.specs.Hidden.{hidden}
-use Rattle.table_entry_views.specs.declared.draft.Draft.{Draft}
-use Rattle.table_entry_views.specs.declared.notes.CardNote.{CardNote}
-use Rattle.table_entry_views.specs.Bounds.{floor_of}
+use Rattle.table_entry_views.specs.declared.{draft.Draft.Draft, notes.CardNote.CardNote}
+use Rattle.table_entry_views.specs.{Bounds.floor_of, Notes.is_fault, Notes.note_at, Notes.note_word}
 use Rattle.table_entry_views.specs.Fields.{fields, notes_of, number_field}
-use Rattle.table_entry_views.specs.Notes.{is_fault, note_at, note_word}
-use Rattle.table_entry_views.specs.declared.card.TheConstants.{BOUNDS, CLOSED_START}
-use Rattle.table_entry_views.specs.declared.card.TheConstants.{RULES_OF_FORM, SPARE, SURE_END}
-use Rattle.table_entry_views.specs.declared.card.TheConstants.{TOLD_FAULT}
+use Rattle.table_entry_views.specs.declared.card.TheConstants.{BOUNDS, CLOSED_START, RULES_OF_FORM}
+use Rattle.table_entry_views.specs.declared.card.TheConstants.{SPARE, SURE_END, TOLD_FAULT}
 
 abbrev pub unit_name : Measure → List ℕ
 unit_name Time = codes "time"

@@ -2,21 +2,17 @@
 use Rattle.std.specs.Prelude.{ℕ, ◌-◌, List, [], ◌∷◌, ◌++◌, codes, decimal, flat_map, slice_get}
 use Rattle.std.specs.Prelude.{Bool, true, false, Option, None, Some, option_map, unwrap_or}
 use Rattle.std.specs.Prelude.{if◌then◌else◌, length, nat_lt}
-use Rattle.attempts.specs.declared.Unit.{Unit as Measure}
-use Rattle.attempts.specs.declared.Value.{Value}
-use Rattle.markup.specs.board_page.Escaped.{escaped}
+use Rattle.attempts.specs.declared.{Unit.Unit as Measure, Value.Value}
+use Rattle.markup.specs.{board_page.Escaped.escaped, Pieces.fill}
 use Rattle.card_forms.specs.Readings.{is_untouched, shown_at, text_at}
 use Rattle.card_forms.specs.declared.cards.CardForm.{CardForm}
 use Rattle.formats.specs.declared.events.Format.{Format}
 use Rattle.rounds.specs.Tables.{Table}
 use Rattle.round_counts.specs.Counts.{numbers_in}
 use Rattle.texts.specs.declared.command.Command.{Command}
-use Rattle.markup.specs.Pieces.{fill}
-use Rattle.table_views.specs.People.{number_in, name_in}
-use Rattle.table_views.specs.Standing.{values_of}
-use Rattle.table_entry_views.specs.declared.draft.Draft.{Draft}
+use Rattle.table_views.specs.{People.number_in, People.name_in, Standing.values_of}
+use Rattle.table_entry_views.specs.declared.{draft.Draft.Draft, notes.CardNote.CardNote}
 use Rattle.table_entry_views.specs.declared.draft.Draft.TheVariants.{Empty, Number, Typed}
-use Rattle.table_entry_views.specs.declared.notes.CardNote.{CardNote}
 use Rattle.table_entry_views.specs.Notes.{field_end, said_at}
 use Rattle.table_entry_views.specs.declared.fields.TheConstants.{CARRIED, FIELD_START, NUMBER_START}
 
@@ -65,8 +61,7 @@ abbrev pub typed_or : Bool → List ℕ → List ℕ → List ℕ
 typed_or true stands text = stands
 typed_or false stands text = escaped text
 
-abbrev pub typed_by : CardForm → Measure → List Value → List (List ℕ) → ℕ → Option (List ℕ)
-    → List ℕ
+abbrev pub typed_by : CardForm → Measure → List Value → List (List ℕ) → ℕ → Option (List ℕ) → List ℕ
 typed_by form unit values filled place None = []
 typed_by form unit values filled place (Some text) =
     typed_or (is_untouched unit form.was form.filled place text) (inside unit values filled place)

@@ -1,13 +1,10 @@
 -- The page of the history of one result: the rows of the log that changed it (the project's own).
 use Rattle.std.specs.Prelude.{ℕ, List, [], ◌∷◌, ◌++◌, codes, decimal}
 use Rattle.acceptor.specs.declared.entry.Entry.{Entry}
-use Rattle.log_rows.specs.Rows.{rows}
-use Rattle.log_rows.specs.declared.writing.ShownEntries.TheVariants.{ChangesOf}
-use Rattle.markup.specs.Pieces.{fill}
-use Rattle.markup.specs.board_page.Escaped.{escaped}
+use Rattle.log_rows.specs.{Rows.rows, declared.writing.ShownEntries.TheVariants.ChangesOf}
+use Rattle.markup.specs.{Pieces.fill, board_page.Escaped.escaped}
 use Rattle.round_words.specs.Words.{event_words}
-use Rattle.table_views.specs.declared.around.PageContext.{PageContext}
-use Rattle.table_views.specs.Frame.{top, bottom}
+use Rattle.table_views.specs.{declared.around.PageContext.PageContext, Frame.top, Frame.bottom}
 use Rattle.texts.specs.declared.command.RoundId.{RoundId}
 use Rattle.table_entry_views.specs.declared.history.TheConstants.{SECTION}
 

@@ -1,14 +1,12 @@
 -- Links to the history of a result, and to the page that withdraws a competitor (the project's
 -- own).
-use Rattle.std.specs.Prelude.{ℕ, if◌then◌else◌, List, [], ◌∷◌, ◌++◌, decimal}
-use Rattle.std.specs.Prelude.{Option, None, Some}
+use Rattle.std.specs.Prelude.{ℕ, if◌then◌else◌, List, [], ◌∷◌, ◌++◌, decimal, Option, None, Some}
 use Rattle.formats.specs.Events.{event_name}
 use Rattle.rounds.specs.Tables.{Table}
 use Rattle.markup.specs.Pieces.{fill}
 use Rattle.table_views.specs.Leaving.{may_leave}
 use Rattle.texts.specs.declared.command.RoundId.{RoundId}
-use Rattle.table_entry_views.specs.declared.draft.Draft.{Draft}
-use Rattle.table_entry_views.specs.Fields.{competitor_of}
+use Rattle.table_entry_views.specs.{declared.draft.Draft.Draft, Fields.competitor_of}
 use Rattle.table_entry_views.specs.declared.leaving.TheConstants.{HISTORY, WORDS}
 
 abbrev pub history_words : RoundId → ℕ → List ℕ

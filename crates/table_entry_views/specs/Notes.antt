@@ -2,24 +2,20 @@
 use Rattle.std.specs.Prelude.{ℕ, ◌==◌, Bool, true, false, if◌then◌else◌, List, [], ◌∷◌, ◌++◌, codes}
 use Rattle.std.specs.Prelude.{◌&&◌, decimal, flat_map}
 use Rattle.std.specs.List.{list_any}
-use Rattle.card_forms.specs.declared.faults.NumberFault.{NumberFault}
-use Rattle.card_forms.specs.declared.faults.NumberFault.TheVariants as number
-use Rattle.card_forms.specs.declared.faults.CardFault.{CardFault}
-use Rattle.card_forms.specs.declared.faults.CardFault.TheVariants as card
+use Rattle.card_forms.specs.declared.faults.{NumberFault.NumberFault, CardFault.CardFault}
 use Rattle.scorecard.specs.declared.fault.ScorecardFault.{ScorecardFault as FieldFault}
-use Rattle.scorecard.specs.declared.fault.ScorecardFault.TheVariants as field
 use Rattle.markup.specs.Pieces.{fill}
 use Rattle.table_entry_views.specs.declared.notes.CardNote.{CardNote}
 use Rattle.table_entry_views.specs.declared.notes.CardNote.TheVariants.{Number, Field, Card, Unlike}
-use Rattle.table_entry_views.specs.declared.notes.CardNote.TheVariants.{Changes}
-use Rattle.table_entry_views.specs.declared.notes.CardNote.TheVariants.{Refused, Fast, Half, Unsolved}
-use Rattle.table_entry_views.specs.declared.notes.CardNote.TheVariants.{Repeats}
-use Rattle.texts.specs.declared.answer.Code.{Code}
-use Rattle.texts.specs.declared.answer.Code.TheVariants as code
-use Rattle.texts.specs.Codes.{code_number}
-use Rattle.texts.specs.meanings.Meanings.{meaning_of}
+use Rattle.table_entry_views.specs.declared.notes.CardNote.TheVariants.{Changes, Refused, Fast}
+use Rattle.table_entry_views.specs.declared.notes.CardNote.TheVariants.{Half, Unsolved, Repeats}
+use Rattle.texts.specs.{declared.answer.Code.Code, Codes.code_number, meanings.Meanings.meaning_of}
 use Rattle.table_entry_views.specs.declared.notes.TheConstants.{FIELD_END, GAP, HALF, MORE_SOLVED}
 use Rattle.table_entry_views.specs.declared.notes.TheConstants.{NUMBERED, SAID_START, UNSOLVED}
+use Rattle.card_forms.specs.declared.faults.NumberFault.TheVariants as number
+use Rattle.card_forms.specs.declared.faults.CardFault.TheVariants as card
+use Rattle.scorecard.specs.declared.fault.ScorecardFault.TheVariants as field
+use Rattle.texts.specs.declared.answer.Code.TheVariants as code
 
 -- ---- where it is: 0 is the competitor's number, 1 to 5 are the attempts, 6 is the card
 
@@ -50,13 +46,7 @@ abbrev pub is_fault : CardNote → Bool
 is_fault (Number fault) = true
 is_fault (Field attempt fault) = true
 is_fault (Card fault) = true
-is_fault (Refused why) = false
-is_fault (Fast attempt) = false
-is_fault (Half attempt) = false
-is_fault (Unlike attempt) = false
-is_fault (Unsolved attempt) = false
-is_fault Repeats = false
-is_fault (Changes attempt) = false
+is_fault _ = false
 
 -- ---- how it is confirmed
 
@@ -65,9 +55,6 @@ numbered word number = fill NUMBERED.now (word ∷ decimal number ∷ [])
 
 -- the word by which a form says that a scoretaker has confirmed a note
 abbrev pub note_word : CardNote → List ℕ
-note_word (Number fault) = codes "-"
-note_word (Field attempt fault) = codes "-"
-note_word (Card fault) = codes "-"
 note_word (Refused why) = numbered (codes "refused-") (code_number why)
 note_word (Fast attempt) = numbered (codes "fast-") attempt
 note_word (Half attempt) = numbered (codes "half-") attempt
@@ -75,6 +62,7 @@ note_word (Unlike attempt) = numbered (codes "unlike-") attempt
 note_word (Unsolved attempt) = numbered (codes "unsolved-") attempt
 note_word Repeats = codes "repeats"
 note_word (Changes attempt) = numbered (codes "changes-") attempt
+note_word _ = codes "-"
 
 -- ---- in words
 

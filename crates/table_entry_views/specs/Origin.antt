@@ -1,9 +1,7 @@
 -- Where what is on a card comes from (the project's own).
-use Rattle.std.specs.Prelude.{ℕ, Bool, true, false, List, [], ◌∷◌, ◌++◌, codes, decimal}
-use Rattle.std.specs.Prelude.{Option, None, Some}
-use Rattle.std.specs.Option.{option_copied}
-use Rattle.markup.specs.Pieces.{fill}
-use Rattle.markup.specs.board_page.Escaped.{escaped}
+use Rattle.std.specs.Prelude.{ℕ, Bool, true, false, List, [], ◌∷◌, ◌++◌, codes, decimal, Option}
+use Rattle.std.specs.{Prelude.None, Prelude.Some, Option.option_copied}
+use Rattle.markup.specs.{Pieces.fill, board_page.Escaped.escaped}
 use Rattle.table_entry_views.specs.declared.origin.Origin.{Origin}
 use Rattle.table_entry_views.specs.declared.origin.TheConstants.{ENTRY, REMARK}
 

@@ -1,24 +1,16 @@
 -- The page of a card (the project's own).
-use Rattle.std.specs.Prelude.{◌≡◌, ℕ, List, ◌++◌, codes, flat_map, drop, get_or}
-use Rattle.std.specs.Prelude.{Bool, true, false, Option, None, Some}
+use Rattle.std.specs.Prelude.{◌≡◌, ℕ, List, ◌++◌, codes, flat_map, drop, get_or, Bool, true, false}
+use Rattle.std.specs.Prelude.{Option, None, Some}
 use Rattle.rounds.specs.Tables.{Table}
 use Rattle.round_words.specs.Words.{round_name, round_words}
-use Rattle.sheets.specs.Sheet.{table_sheet}
-use Rattle.texts.specs.declared.command.RoundId.{RoundId}
-use Rattle.texts.specs.declared.command.Settings.{Settings}
-use Rattle.table_views.specs.declared.around.PageContext.{PageContext}
+use Rattle.texts.specs.declared.command.{RoundId.RoundId, Settings.Settings}
+use Rattle.table_views.specs.{declared.around.PageContext.PageContext, Logs.accepted_in}
 use Rattle.table_views.specs.Editions.{edition_form, is_latest}
-use Rattle.table_views.specs.Frame.{top, bottom}
-use Rattle.table_views.specs.Logs.{accepted_in}
-use Rattle.table_views.specs.Recent.{recent_section}
-use Rattle.table_entry_views.specs.declared.draft.Draft.{Draft}
-use Rattle.table_entry_views.specs.declared.past.Past.{Past}
-use Rattle.table_entry_views.specs.Beside.{IsBeside}
-use Rattle.table_entry_views.specs.Bounds.{best_in}
+use Rattle.table_views.specs.{Frame.top, Frame.bottom, Recent.recent_section}
+use Rattle.table_entry_views.specs.declared.{draft.Draft.Draft, past.Past.Past}
+use Rattle.table_entry_views.specs.{Beside.section, Bounds.best_in, Fields.standing_of}
 use Rattle.table_entry_views.specs.Card.{card_head, card_fields, closed_line, form_start, spare}
-use Rattle.table_entry_views.specs.Fields.{standing_of}
-use Rattle.table_entry_views.specs.Leaving.{leaving_line}
-use Rattle.table_entry_views.specs.Origin.{origin_line}
+use Rattle.table_entry_views.specs.{Leaving.leaving_line, Origin.origin_line}
 use Rattle.table_entry_views.specs.declared.card.TheConstants.{FORM_END}
 
 -- The form of the card carries the token, the first id, the other ids as spare ones, and the values
@@ -60,18 +52,14 @@ front around id round draft past =
     ++ card_section around id round draft past
     ++ recent_section around
 
--- this text is the page of a card of a round
-abbrev pub IsPageOf : PageContext → RoundId → Settings × Table → Draft → Past → List ℕ → Type 0
-IsPageOf around id round draft past page =
-    (sheet : List ℕ) × (beside : List ℕ)
-    × (table_sheet (accepted_in around.mirror.now) id.event id.round ≡ Some sheet)
-    × IsBeside id round.0 round.1 sheet beside
-    × (page ≡ front around id round draft past ++ beside ++ bottom)
+-- the page of a card of a round
+abbrev pub page_of : PageContext → RoundId → Settings × Table → Draft → Past → List ℕ
+page_of around id round draft past =
+    front around id round draft past ++ section (accepted_in around.mirror.now) id round ++ bottom
 
 -- the page of a card, where the round was opened
 abbrev pub IsCardPage : PageContext → RoundId → Draft → Past → Option (Settings × Table)
     → Option (List ℕ) → Type 0
 IsCardPage around id draft past None page = page ≡ None
-IsCardPage around id draft past (Some round) None = ⊥
-IsCardPage around id draft past (Some round) (Some page) =
-    IsPageOf around id round draft past page
+IsCardPage around id draft past (Some round) page =
+    page ≡ Some (page_of around id round draft past)

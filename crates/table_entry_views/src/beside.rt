@@ -1,25 +1,26 @@
 //! The round beside the card.
 
-ghost use Rattle.std.specs.Prelude.{◌≡◌, ◌++◌, OnOk, drop, flat_map, map};
-ghost use Rattle.markup.specs.board_page.Adding.{Adds};
-ghost use Rattle.markup.specs.board_page.Table.{cell};
-ghost use Rattle.csv.specs.Records.{fields_of};
-ghost use Rattle.table_entry_views.specs.Beside.{class_of, count_line, line};
-ghost use Rattle.table_entry_views.specs.Beside.{line_start, number_cell, number_link, progress_at};
-ghost use Rattle.table_entry_views.specs.Beside.{section_head, table_start, table_text, values_at};
-ghost use Rattle.table_entry_views.specs.Beside.{IsBeside};
+ghost use Rattle.std.specs.Prelude.{◌≡◌, ◌++◌, IfOk, OnOk, Some, flat_map};
+ghost use Rattle.commands.specs.Accepted.{round_by, seen_of};
+ghost use Rattle.rounds.specs.{Rows.IsRow, Tables.Entrant, Tables.standings};
+ghost use Rattle.sheets.specs.{Going.Tells, Sheet.attempt_text};
+ghost use Rattle.table_entry_views.specs.Beside.{attempt_cells, class_of, count_line, is_through};
+ghost use Rattle.table_entry_views.specs.Beside.{line, line_end, line_start, person_cells};
+ghost use Rattle.table_entry_views.specs.Beside.{section, section_head, table_start};
 
 use acceptor::NoMemory;
-use attempts::Value;
-use csv::ByteRecord;
-use formats::Format;
-use markup::Piece::{Number, Text};
-use markup::board_page::{field_at, push_cell, push_each_heading, records_of};
+use attempts::{Unit, Value, print_value};
+use board_rounds::{push_attempt_headings, push_cell, push_number, push_results};
+use commands::Meet;
+use formats::{Format, attempts_of, unit_of};
+use markup::Piece::Number;
 use markup::fill;
 use round_counts::{Counts, OpenedRound, Progress, counts_of, progress_of};
 use round_words::{push_round_name, push_round_words};
-use rounds::RoundTable;
-use table_views::{number_of, values_of};
+use rounds::{EntrantRow, RoundTable};
+use sheets::AdvancingEntrants;
+use std::alloc::Global;
+use table_views::push_name;
 use texts::{RoundId, push_was};
 
 const SECTION_START: &[u8] = b"\
@@ -38,55 +39,6 @@ fn class_of(progress: Progress) -> &'static [u8]
     }
 }
 
-const NUMBER_LINK: &[u8] = b"?number=$\">$</a></td>";
-
-fn push_number_link(out: &mut Vec<u8>, field: &[u8]) -> Result<(), NoMemory>
-    ensures { OnOk result (out.new.items ≡ out.old.items ++ number_link field.now) }
-{
-    fill(out, NUMBER_LINK, &[Text(field), Text(field)])
-}
-
-/// Adds the number of an entrant, with a link to the entrant's card.
-fn push_number_cell(out: &mut Vec<u8>, id: RoundId, field: &[u8]) -> Result<(), NoMemory>
-    ensures { OnOk result (out.new.items ≡ out.old.items ++ number_cell id field.now) }
-{
-    out.extend_from_slice(b"<td><a href=\"/card/")?;
-    push_round_name(out, id)?;
-    push_number_link(out, field)?;
-    Ok(())
-}
-
-/// How far the entrant of a number has come.
-fn progress_at(table: &RoundTable, format: Format, number: Option<u16>) -> Progress
-    ensures { result ≡ progress_at format table.now number }
-{
-    match number {
-        Some(number) => progress_of(table, format, number),
-        None => Progress::Absent,
-    }
-}
-
-/// Adds a cell for each field from the third one on.
-fn push_cells(out: &mut Vec<u8>, row: &ByteRecord) -> Result<(), NoMemory>
-    ensures { OnOk result (out.new.items
-        ≡ out.old.items ++ flat_map cell (drop 2 (fields_of row.now))) }
-{
-    for place in 2..row.len().max(2) {
-        push_cell(out, field_at(row, place))?;
-    }
-    Ok(())
-}
-
-/// The values that count of the entrant of a number.
-fn values_at(table: &RoundTable, number: Option<u16>) -> &[Value]
-    ensures { result.now ≡ values_at table.now number }
-{
-    match number {
-        Some(number) => values_of(table, number),
-        None => &[],
-    }
-}
-
 /// Adds the beginning of a line, which says what counts as `CARD` spells it.
 fn push_line_start(out: &mut Vec<u8>, progress: Progress, values: &[Value]) -> Result<(), NoMemory>
     ensures { OnOk result (out.new.items ≡ out.old.items ++ line_start progress values.now) }
@@ -99,41 +51,144 @@ fn push_line_start(out: &mut Vec<u8>, progress: Progress, values: &[Value]) -> R
     Ok(())
 }
 
-/// Adds the line of an entrant.
-fn push_line(
+const NUMBER_LINK: &[u8] = b"?number=$\">$</a></td><td>";
+
+/// Adds the place, the number, with a link to the entrant's card, and the name of an entrant.
+fn push_person(
     out: &mut Vec<u8>,
+    meet: &Meet,
     id: RoundId,
-    format: Format,
-    table: &RoundTable,
-    row: &ByteRecord,
+    place: u16,
+    number: u16,
 ) -> Result<(), NoMemory>
     ensures { OnOk result (out.new.items
-        ≡ out.old.items ++ line id format table.now (fields_of row.now)) }
+        ≡ out.old.items ++ person_cells meet.now.accepted id place number) }
 {
-    let number = field_at(row, 1);
-    let who = number_of(number);
-    push_line_start(out, progress_at(table, format, who), values_at(table, who))?;
-    push_cell(out, field_at(row, 0))?;
-    push_number_cell(out, id, number)?;
-    push_cells(out, row)?;
-    out.extend_from_slice(b"</tr>\n")?;
+    push_number(out, place)?;
+    out.extend_from_slice(b"<td><a href=\"/card/")?;
+    push_round_name(out, id)?;
+    fill(
+        out,
+        NUMBER_LINK,
+        &[Number(number as u64), Number(number as u64)],
+    )?;
+    push_name(out, meet, number)?;
+    out.extend_from_slice(b"</td>")?;
+    Ok(())
+}
+
+/// The attempt at a place, counted from 0, or `-` where it is not there.
+fn attempt_text(
+    alloc: Global,
+    values: &[Value],
+    place: usize,
+    unit: Unit,
+) -> Result<Vec<u8>, NoMemory>
+    ensures { IfOk result (λ text. text.items ≡ attempt_text unit values.now place) }
+{
+    match values.get(place) {
+        Some(value) => print_value(alloc, *value, unit),
+        None => Vec::from_slice(alloc, b"-"),
+    }
+}
+
+/// Adds a cell for each attempt of the format.
+fn push_attempts(out: &mut Vec<u8>, values: &[Value], count: u8, unit: Unit) -> Result<(), NoMemory>
+    ensures { OnOk result (out.new.items
+        ≡ out.old.items ++ attempt_cells unit values.now count) }
+{
+    for place in 0..count {
+        let text = attempt_text(*out.allocator(), values, place as usize, unit)?;
+        push_cell(out, &text)?;
+    }
+    Ok(())
+}
+
+/// Adds whether an entrant advances, and ends the line.
+fn push_line_end(out: &mut Vec<u8>, through: bool) -> Result<(), NoMemory>
+    ensures { OnOk result (out.new.items ≡ out.old.items ++ line_end through) }
+{
+    if through {
+        out.extend_from_slice(b"<td>yes</td></tr>\n")
+    } else {
+        out.extend_from_slice(b"<td>no</td></tr>\n")
+    }
+}
+
+/// Whether the entrant of a row advances: who does is said once the round is closed.
+fn is_through(
+    table: &RoundTable,
+    going_on: &AdvancingEntrants,
+    number: u16,
+    row: EntrantRow<'_>,
+) -> bool
+    ensures { (e : Entrant) → IsRow table.now number e row.entry
+        → result ≡ is_through table.now going_on.now number }
+{
+    table.is_closed() && going_on.includes(number, row)
+}
+
+/// Adds the line of the entrant with a number, with the texts of the sheet.
+fn push_line(
+    out: &mut Vec<u8>,
+    meet: &Meet,
+    id: RoundId,
+    round: OpenedRound<'_>,
+    going_on: &AdvancingEntrants,
+    number: u16,
+) -> Result<(), NoMemory>
+    requires { Tells going_on.now round.table.now (seen_of meet.now.accepted id.event id.round) }
+    ensures { OnOk result (out.new.items ≡ out.old.items
+        ++ line meet.now.accepted id (round.entry.settings, round.entry.table.now) number) }
+{
+    let Some(row) = round.table.row(number) else {
+        return Ok(());
+    };
+    let unit = unit_of(id.event);
+    let count = attempts_of(round.settings.format);
+    let progress = progress_of(round.table, round.settings.format, number);
+    let through = is_through(round.table, going_on, number, row);
+    push_line_start(out, progress, row.values)?;
+    push_person(out, meet, id, row.place, number)?;
+    push_results(out, row.average, row.best, row.values, unit)?;
+    push_attempts(out, row.values, count, unit)?;
+    push_line_end(out, through)?;
     Ok(())
 }
 
 fn push_lines(
     out: &mut Vec<u8>,
+    meet: &Meet,
     id: RoundId,
-    format: Format,
-    table: &RoundTable,
-    records: &[ByteRecord],
+    round: OpenedRound<'_>,
+    going_on: &AdvancingEntrants,
+    numbers: &[u16],
 ) -> Result<(), NoMemory>
-    ensures { OnOk result (out.new.items ≡ out.old.items
-        ++ flat_map (line id format table.now) (map fields_of records.now)) }
+    requires { Tells going_on.now round.table.now (seen_of meet.now.accepted id.event id.round) }
+    ensures { OnOk result (out.new.items ≡ out.old.items ++ flat_map
+        (line meet.now.accepted id (round.entry.settings, round.entry.table.now)) numbers.now) }
 {
-    for row in records {
-        push_line(out, id, format, table, row)?;
+    for number in numbers {
+        push_line(out, meet, id, round, going_on, *number)?;
     }
     Ok(())
+}
+
+/// Adds the line of each entrant, in order of place.
+fn push_entrants(
+    out: &mut Vec<u8>,
+    meet: &Meet,
+    id: RoundId,
+    round: OpenedRound<'_>,
+) -> Result<(), NoMemory>
+    requires { round_by meet.now.accepted id ≡ Some (round.settings, round.table.now) }
+    ensures { OnOk result (out.new.items ≡ out.old.items ++ flat_map
+        (line meet.now.accepted id (round.entry.settings, round.entry.table.now))
+        (standings round.entry.table.now)) }
+{
+    let numbers = round.table.standings()?;
+    let going_on = AdvancingEntrants::from_round(*out.allocator(), meet, id.event, id.round)?;
+    push_lines(out, meet, id, round, &going_on, &numbers)
 }
 
 const COUNTS: &[u8] = b"\
@@ -155,35 +210,18 @@ fn push_counts(out: &mut Vec<u8>, counts: Counts) -> Result<(), NoMemory>
     )
 }
 
-/// Adds the columns' names and the beginning of the lines.
-fn push_table_start(out: &mut Vec<u8>, names: &ByteRecord) -> Result<(), NoMemory>
-    ensures { OnOk result (out.new.items
-        ≡ out.old.items ++ table_start (fields_of names.now)) }
-{
-    out.extend_from_slice(
-        b"<table><caption>Entrants of this round by place, with attempts</caption><thead><tr>",
-    )?;
-    push_each_heading(out, names)?;
-    out.extend_from_slice(b"</tr></thead><tbody>\n")?;
-    Ok(())
-}
+const TABLE_START: &[u8] = b"\
+<table><caption>Entrants of this round by place, with attempts</caption><thead><tr>\
+<th scope=\"col\">place</th><th scope=\"col\">number</th><th scope=\"col\">name</th>\
+<th scope=\"col\">average</th><th scope=\"col\">best</th>";
 
-fn push_table(
-    out: &mut Vec<u8>,
-    id: RoundId,
-    format: Format,
-    table: &RoundTable,
-    records: &[ByteRecord],
-) -> Result<(), NoMemory>
-    ensures { OnOk result (out.new.items ≡ out.old.items
-        ++ table_text id format table.now (map fields_of records.now)) }
+/// Adds the columns' names and the beginning of the lines.
+fn push_table_start(out: &mut Vec<u8>, format: Format) -> Result<(), NoMemory>
+    ensures { OnOk result (out.new.items ≡ out.old.items ++ table_start format) }
 {
-    let [names, entrants @ ..] = records else {
-        return Ok(());
-    };
-    push_table_start(out, names)?;
-    push_lines(out, id, format, table, entrants)?;
-    out.extend_from_slice(b"</tbody></table>\n")?;
+    out.extend_from_slice(TABLE_START)?;
+    push_attempt_headings(out, attempts_of(format))?;
+    out.extend_from_slice(b"<th scope=\"col\">advances</th></tr></thead><tbody>\n")?;
     Ok(())
 }
 
@@ -204,20 +242,21 @@ fn push_section_start(
     Ok(())
 }
 
-/// Adds the section of a round, whose sheet has this table: how far the entrants have come, and a
-/// cell for each field.
+/// Adds the section of a round that was opened: how far the entrants have come, and the texts of
+/// its sheet, a line for each entrant.
 pub(crate) fn push_round(
     out: &mut Vec<u8>,
+    meet: &Meet,
     id: RoundId,
     round: OpenedRound<'_>,
-    sheet: &[u8],
 ) -> Result<(), NoMemory>
-    ensures { OnOk result (Adds out.old.items out.new.items (IsBeside id
-        round.entry.settings round.entry.table.now sheet.now)) }
+    requires { round_by meet.now.accepted id ≡ Some (round.settings, round.table.now) }
+    ensures { OnOk result (out.new.items ≡ out.old.items
+        ++ section meet.now.accepted id (round.entry.settings, round.entry.table.now)) }
 {
-    let records = records_of(*out.allocator(), sheet)?;
     push_section_start(out, id, round)?;
-    push_table(out, id, round.settings.format, round.table, &records)?;
-    out.extend_from_slice(b"</section></div>\n")?;
+    push_table_start(out, round.settings.format)?;
+    push_entrants(out, meet, id, round)?;
+    out.extend_from_slice(b"</tbody></table>\n</section></div>\n")?;
     Ok(())
 }

@@ -2,13 +2,11 @@
 
 ghost use Rattle.std.specs.Prelude.{◌≡◌, ◌++◌, IfOk, OnOk, flat_map};
 ghost use Rattle.std.specs.List.{list_any};
-ghost use Rattle.table_entry_views.specs.Notes.{card_words, field_end, field_words, invalid_if};
-ghost use Rattle.table_entry_views.specs.Notes.{is_changed, is_fault, is_wrong_at, note_at};
-ghost use Rattle.table_entry_views.specs.Notes.{note_line};
-ghost use Rattle.table_entry_views.specs.Notes.{note_word, note_words, number_words, numbered};
-ghost use Rattle.table_entry_views.specs.Notes.{other_words, place_of, place_of_code};
-ghost use Rattle.table_entry_views.specs.Notes.{place_of_fault};
-ghost use Rattle.table_entry_views.specs.Notes.{refused_words, said_at, unsolved_words};
+ghost use Rattle.table_entry_views.specs.Notes.{card_words, invalid_if, is_wrong_at, other_words};
+ghost use Rattle.table_entry_views.specs.Notes.{field_end, is_changed, note_line, note_words};
+ghost use Rattle.table_entry_views.specs.Notes.{field_words, is_fault, number_words, refused_words};
+ghost use Rattle.table_entry_views.specs.Notes.{note_at, note_word, numbered, place_of, said_at};
+ghost use Rattle.table_entry_views.specs.Notes.{place_of_code, place_of_fault, unsolved_words};
 
 use acceptor::NoMemory;
 use card_forms::{CardFault, NumberFault};

@@ -3,8 +3,7 @@
 ghost use Rattle.std.specs.Prelude.{◌≡◌, ◌++◌, OnOk};
 ghost use Rattle.std.specs.Option.{option_copied};
 ghost use Rattle.table_entry_views.specs.Origin.{entry_words, origin_line, origin_words};
-ghost use Rattle.table_entry_views.specs.Origin.{place_words};
-ghost use Rattle.table_entry_views.specs.Origin.{remark_words};
+ghost use Rattle.table_entry_views.specs.Origin.{place_words, remark_words};
 
 use acceptor::NoMemory;
 use markup::Piece::{Html, Number, Text};

@@ -3,11 +3,9 @@
 ghost use Rattle.std.specs.Prelude.{◌≡◌, ◌++◌, IfOk, OnOk, Some, option_map};
 ghost use Rattle.commands.specs.Accepted.{round_by};
 ghost use Rattle.round_words.specs.Words.{round_words};
-ghost use Rattle.sheets.specs.Sheet.{table_sheet};
 ghost use Rattle.table_entry_views.specs.Page.{card_form, card_path, card_section, form_if, front};
-ghost use Rattle.table_entry_views.specs.Page.{no_form, IsCardPage, IsPageOf};
-ghost use Rattle.table_views.specs.Editions.{is_latest};
-ghost use Rattle.table_views.specs.Logs.{accepted_in};
+ghost use Rattle.table_entry_views.specs.Page.{no_form, page_of, IsCardPage};
+ghost use Rattle.table_views.specs.{Editions.is_latest, Logs.accepted_in};
 
 use crate::beside::push_round;
 use crate::bounds::best_in;
@@ -20,11 +18,9 @@ use crate::leaving::push_leaving;
 use crate::origin::push_origin;
 use crate::past::Past;
 use acceptor::NoMemory;
-use commands::Meet;
 use round_counts::{OpenedRound, round_opened};
 use round_words::{push_round_name, push_round_words};
-use sheets::table;
-use std::alloc::{AllocError, Global};
+use std::alloc::Global;
 use table_views::{PageContext, is_latest, push_bottom, push_edition_form, push_recent, push_top};
 use texts::{Advance, RoundId};
 
@@ -35,17 +31,6 @@ fn title_of(alloc: Global, id: RoundId, advance: Advance) -> Result<Vec<u8>, NoM
     let mut title = Vec::new(alloc);
     push_round_words(&mut title, id, advance)?;
     Ok(title)
-}
-
-/// The table of a round that was opened, as its sheet has it.
-fn sheet_of(alloc: Global, meet: &Meet, id: RoundId) -> Result<Vec<u8>, NoMemory>
-    ensures { IfOk result (λ sheet.
-        table_sheet meet.now.accepted id.event id.round ≡ Some sheet.items) }
-{
-    match table(alloc, meet, id.event, id.round, 0) {
-        Ok(text) => Ok(text),
-        Err(_) => Err(AllocError),
-    }
 }
 
 /// Adds the form of the card, and what is said of what counts.
@@ -172,13 +157,14 @@ fn page_of(
     draft: Draft<'_>,
     past: Past<'_>,
 ) -> Result<Vec<u8>, NoMemory>
-    ensures { IfOk result (λ page. IsPageOf around.entry.now id
-        (round.entry.settings, round.entry.table.now) draft.entry past.entry page.items) }
+    requires { round_by (accepted_in around.now.mirror.now) id
+        ≡ Some (round.settings, round.table.now) }
+    ensures { IfOk result (λ page. page.items ≡ page_of around.entry.now id
+        (round.entry.settings, round.entry.table.now) draft.entry past.entry) }
 {
-    let sheet = sheet_of(alloc, around.mirror.meet(), id)?;
     let mut page = Vec::new(alloc);
     push_front(&mut page, around, id, round, draft, past)?;
-    push_round(&mut page, id, round, &sheet)?;
+    push_round(&mut page, around.mirror.meet(), id, round)?;
     push_bottom(&mut page)?;
     Ok(page)
 }
@@ -191,7 +177,7 @@ fn page_of(
 /// the field has that in place of what it counts, and the form carries it. The page says which
 /// entry of the log was the last on these attempts, with its remark, where `past` says so, with a
 /// link for a competitor who can withdraw; and it has the cards and commands of late, and the
-/// round, whose cells are the fields of its sheet. In a hall of an earlier edition it has the form
+/// round, with the texts of its sheet. In a hall of an earlier edition it has the form
 /// that enters edition 4 in place of the card's.
 pub fn card_page(
     alloc: Global,

@@ -5,21 +5,15 @@ use Rattle.std.specs.declared.alloc.AllocError.{AllocError}
 use Rattle.acceptor.specs.declared.entry.Entry.{Entry}
 use Rattle.http.specs.declared.request.Request.{Request}
 use Rattle.outbox.specs.Items.{ItemsOf}
-use Rattle.table_views.specs.declared.around.PageContext.{PageContext}
-use Rattle.table_views.specs.declared.around.Recent.{Recent}
-use Rattle.table_service.specs.declared.plan.RequestPlan.{RequestPlan}
-use Rattle.table_service.specs.declared.plan.Problem.TheVariants as problem
-use Rattle.table_service.specs.Gate.{is_own}
-use Rattle.table_service.specs.Recents.{AreRecent}
-use Rattle.table_service.specs.Replying.{refuses}
-use Rattle.table_service.specs.Sent.{PlansOwn}
+use Rattle.table_views.specs.declared.around.{PageContext.PageContext, Recent.Recent}
+use Rattle.table_service.specs.{declared.plan.RequestPlan.RequestPlan, Gate.is_own, Sent.PlansOwn}
+use Rattle.table_service.specs.{Recents.AreRecent, Replying.refuses, Services.ServiceOf}
 use Rattle.table_service.specs.Services.{IsAround, Plans, PlansAround, PlansIf, PlansWith}
-use Rattle.table_service.specs.Services.{ServiceOf}
+use Rattle.table_service.specs.declared.plan.Problem.TheVariants as problem
 
 pub own_seen : {Z : Type 0} (hosts seen : List (String Z)) → hosts ≡ seen → (s : ServiceOf)
     → map string_bytes seen ≡ s.hosts → (request : Request (List ℕ)) (asked own : Bool)
-    → asked ≡ is_own (map string_bytes hosts) request → asked ≡ own
-    → is_own s.hosts request ≡ own
+    → asked ≡ is_own (map string_bytes hosts) request → asked ≡ own → is_own s.hosts request ≡ own
 own_seen hosts seen same s is request asked own answers so =
     sym (answers
     ∙ ap (λ (hs : List (List ℕ)). is_own hs request) (ap (map string_bytes) same ∙ is))
@@ -50,16 +44,14 @@ module _ (s : ServiceOf) (request : Request (List ℕ)) (so : is_own s.hosts req
   all_planned set some (Err error) is = tt
 
 pub recent_seen : (log held : List Entry) (q list : ItemsOf) (recents shown : List Recent)
-    → log ≡ held → q ≡ list → shown ≡ recents → AreRecent log q recents
-    → AreRecent held list shown
+    → log ≡ held → q ≡ list → shown ≡ recents → AreRecent log q recents → AreRecent held list shown
 recent_seen log held q list recents shown same_log same_list same are =
     subst (λ (l : List Entry). AreRecent l list shown) same_log
     (subst (λ (p : ItemsOf). AreRecent log p shown) same_list
     (subst (λ (rs : List Recent). AreRecent log q rs) (sym same) are))
 
 pub around_planned : (s : ServiceOf) (set : List ℕ) (request : Request (List ℕ))
-    (around : PageContext)
-    (title : List ℕ) (q : ItemsOf) (r : Result RequestPlan AllocError)
+    (around : PageContext) (title : List ℕ) (q : ItemsOf) (r : Result RequestPlan AllocError)
     → IfOk r (PlansOwn around title q request) → IsAround s set request around → title ≡ s.title
     → q ≡ s.outbox.list → IfOk r (PlansAround s set request)
 around_planned s set request around title q (Ok plan) plans is named same = record {

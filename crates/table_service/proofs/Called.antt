@@ -1,22 +1,20 @@
 -- What becomes of the items and of the journal comes from calls of the outbox.
-use Rattle.std.proofs.Common.{◌≡◌, ◌∙◌, ◌++◌, ◌∷◌, [], inl, inr, Bool, true, false, ℕ, List}
-use Rattle.std.proofs.Common.{Option, Some, ap, refl, subst, sym}
+use Rattle.std.proofs.Common.{◌≡◌, ◌∙◌, ◌++◌, ◌∷◌, [], inl, inr, Bool, true, false, ℕ, List, Option}
+use Rattle.std.proofs.Common.{Some, ap, refl, subst, sym}
 use Rattle.acceptor.specs.declared.entry.Entry.{Entry}
 use Rattle.http.specs.declared.request.Request.{Request}
 use Rattle.http_server.specs.declared.response.Response.{Response}
 use Rattle.desk_sockets.proofs.Reaching.{both, one}
 use Rattle.desk_talks.specs.Dialogues.{Reaches}
 use Rattle.outbox.specs.Histories.{Answer, Call, CallLeads, Kept, NotKept, Take, World, world}
-use Rattle.outbox.specs.Items.{ItemsOf}
-use Rattle.outbox.specs.Lines.{HallOf}
+use Rattle.outbox.specs.{Items.ItemsOf, Lines.HallOf}
 use Rattle.outbox.specs.Outboxes.{AnswersIf, OutboxOf, with_list}
-use Rattle.table_service.specs.declared.plan.Effect.{Effect}
-use Rattle.table_service.specs.declared.plan.Effect.TheVariants as effect
-use Rattle.table_service.specs.declared.plan.RequestPlan.{RequestPlan}
+use Rattle.table_service.specs.declared.plan.{Effect.Effect, RequestPlan.RequestPlan}
 use Rattle.table_service.specs.Disks.{IsSynced, lines_in, with_kept}
 use Rattle.table_service.specs.Services.{Answers, AnswersIt, AnswersKept, DoesAs, IsTakenAgain}
 use Rattle.table_service.specs.Services.{KeepsList, LeavesAll, ServiceOf, TakesAgain, TakesAll}
 use Rattle.table_service.specs.Services.{TakesThem, list_if, with_ids_used}
+use Rattle.table_service.specs.declared.plan.Effect.TheVariants as effect
 
 -- the items, and the lines of the journal, come from calls of the outbox
 pub record IsCalled (hall : HallOf) (file : List ℕ) (old new : ServiceOf) : Type 0 where
@@ -58,8 +56,7 @@ module _ (hall : HallOf) where
     pub synced : IsSynced new.file
     pub lead : CallLeads hall call (world o file) (world new.outbox after)
 
-  keeps_lead : (file : List ℕ) (o : OutboxOf) (old new : ServiceOf)
-      → lines_in old.file ≡ Some file
+  keeps_lead : (file : List ℕ) (o : OutboxOf) (old new : ServiceOf) → lines_in old.file ≡ Some file
       → ((q : ItemsOf) → with_list old.outbox q ≡ with_list o q) → (kept : Bool)
       → KeepsList kept o.list old new → IsKeptBy file o new
   keeps_lead file o old new is same true keeps = record {
@@ -137,8 +134,7 @@ module _ (hall : HallOf) where
           }
 
       again_kept : (of : ℕ) (plan : RequestPlan) (r : Response)
-          → IsTakenAgain list of plan old r new
-          → IsCalled hall file old new
+          → IsTakenAgain list of plan old r new → IsCalled hall file old new
       again_kept of plan r a =
           let mid : IsKeptBy file (with_list old.outbox list) a.kept =
           keeps_lead file (with_list old.outbox list) old a.kept is (λ q. refl) true a.keeps in

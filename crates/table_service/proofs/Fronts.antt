@@ -1,10 +1,8 @@
 -- The front of a file's bytes that has its whole lines.
-use Rattle.std.proofs.Common.{◌≡◌, ◌∙◌, ◌++◌, ◌+◌, ◌∷◌, ◌==◌, [], ℕ, Bool, true, false, List}
-use Rattle.std.proofs.Common.{ap, arith, cond, length, length-append, refl, subst, sym, take}
-use Rattle.std.specs.List.{join_with_byte, onto_first}
-use Rattle.std.proofs.Math.Seq.{take-length}
-use Rattle.std.proofs.lemmas.List.{take-append-le}
-use Rattle.std.proofs.lemmas.List.Splits.{join_with_byte-slice_split}
+use Rattle.std.proofs.Common.{◌≡◌, ◌∙◌, ◌++◌, ◌+◌, ◌∷◌, ◌==◌, [], ℕ, Bool, true, false, List, ap}
+use Rattle.std.proofs.Common.{arith, cond, length, length-append, refl, subst, sym, take}
+use Rattle.std.{specs.List.join_with_byte, specs.List.onto_first, proofs.Math.Seq.take-length}
+use Rattle.std.proofs.lemmas.List.{take-append-le, Splits.join_with_byte-slice_split}
 use Rattle.outbox.specs.Histories.{IsCutFrom}
 use Rattle.outbox.specs.Lines.{all_but_last, cut_line, last_of, parts}
 use Rattle.outbox.proofs.Pieces.{first_other, first_whole, some_parts}
@@ -42,8 +40,7 @@ module _ (b : ℕ) where
 
   -- one more byte of the first line
   longer : (ps fs : List (List ℕ)) (p q : List ℕ) → last_of fs ≡ []
-      → all_but_last fs ≡ all_but_last (p ∷ q ∷ ps)
-      → ((last_of (onto_first b fs) ≡ [])
+      → all_but_last fs ≡ all_but_last (p ∷ q ∷ ps) → ((last_of (onto_first b fs) ≡ [])
       × (all_but_last (onto_first b fs) ≡ all_but_last (onto_first b (p ∷ q ∷ ps))))
   longer ps [] p q ends lines = absurd cc
   longer ps (f ∷ []) p q ends lines = absurd cc

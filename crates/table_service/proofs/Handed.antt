@@ -1,20 +1,18 @@
 -- What is under way keeps its items, whatever its dialogue with a desk comes to.
 use Rattle.std.proofs.Common.{◌≡◌, ◌∙◌, ◌==◌, ◌∷◌, [], Bool, true, false, ℕ, List, ap}
 use Rattle.wire.specs.declared.frame.FrameBody.{FrameBody}
-use Rattle.wire.specs.declared.frame.FrameBody.TheVariants as what
 use Rattle.desk_talks.specs.Dialogues.{Act, Call, CallsLead, Hear, Lost, Opened, Reaches, Sent}
 use Rattle.desk_talks.specs.declared.dialogue.ReceiveOutcome.{ReceiveOutcome}
 use Rattle.desk_talks.specs.declared.dialogue.DialogueAction.{DialogueAction}
-use Rattle.desk_talks.specs.declared.dialogue.DialogueAction.TheVariants as wish
-use Rattle.desk_talks.specs.declared.kept_connection.DueAction.{DueAction}
-use Rattle.desk_talks.specs.declared.kept_connection.DueAction.TheVariants as due
+use Rattle.desk_talks.specs.{declared.kept_connection.DueAction.DueAction, KeptConnections.due_of}
 use Rattle.desk_talks.specs.declared.exchange.AnswerOutcome.{AnswerOutcome}
-use Rattle.desk_talks.specs.declared.exchange.AnswerOutcome.TheVariants as heard
-use Rattle.desk_talks.specs.KeptConnections.{due_of}
-use Rattle.outbox.specs.declared.item.Item.{Item}
+use Rattle.outbox.specs.{declared.item.Item.Item, Outboxes.with_line}
 use Rattle.outbox.specs.Outboxes.{ActsAt, ActsBy, Asks, AsksIf, AsksNext, DialogueLeads, Follows}
 use Rattle.outbox.specs.Outboxes.{FollowsAnswer, OpensIf, OutboxOf, is_left, kept_from, skipped}
-use Rattle.outbox.specs.Outboxes.{with_line}
+use Rattle.wire.specs.declared.frame.FrameBody.TheVariants as what
+use Rattle.desk_talks.specs.declared.dialogue.DialogueAction.TheVariants as wish
+use Rattle.desk_talks.specs.declared.kept_connection.DueAction.TheVariants as due
+use Rattle.desk_talks.specs.declared.exchange.AnswerOutcome.TheVariants as heard
 
 abbrev Stays : OutboxOf → OutboxOf → Type 0
 Stays old new = new.list ≡ old.list
@@ -30,25 +28,20 @@ next_asked (pair ∷ more) now old new (line, asks, e) = is_same (with_line old 
 asked : (w : DialogueAction) (now : ℕ) (old new : OutboxOf) → Asks w now old new → Stays old new
 asked wish.Write now old new asks = next_asked (kept_from old.list old.next) now old new asks
 asked wish.Close now old new e = is_same _ new e
-asked wish.Rest now old new none = absurd none
-asked (wish.Open d) now old new none = absurd none
-asked wish.Stop now old new none = absurd none
+asked _ now old new none = absurd none
 
 asked_if : (left : Bool) (w : DialogueAction) (now : ℕ) (old new : OutboxOf)
-    → AsksIf left w now old new
-    → Stays old new
+    → AsksIf left w now old new → Stays old new
 asked_if true w now old new asks = asked w now old new asks
 asked_if false w now old new (is, e) = is_same old new e
 
 opened_if : (left : Bool) (w : DialogueAction) (now : ℕ) (old new : OutboxOf)
-    → OpensIf left w now old new
-    → Stays old new
+    → OpensIf left w now old new → Stays old new
 opened_if true w now old new (is, e) = is_same _ new e
 opened_if false w now old new (is, e) = is_same old new e
 
 acted_by : (is : DueAction) (w : DialogueAction) (now : ℕ) (old new : OutboxOf)
-    → ActsBy is w now old new
-    → Stays old new
+    → ActsBy is w now old new → Stays old new
 acted_by due.Rest w now old new (is, e) = is_same old new e
 acted_by due.Open w now old new acts =
     opened_if (is_left (skipped old)) w now (skipped old) new acts
@@ -58,14 +51,12 @@ acted_by due.Close w now old new (is, e) = is_same _ new e
 acted_by due.Renew w now old new (is, e) = is_same _ new e
 
 acted : (stays : Bool) (w : DialogueAction) (now : ℕ) (old new : OutboxOf)
-    → ActsAt stays w now old new
-    → Stays old new
+    → ActsAt stays w now old new → Stays old new
 acted true w now old new acts = acted_by (due_of old.line now) w now old new acts
 acted false w now old new (is, e) = is_same _ new e
 
 answered : (answer : FrameBody) (c : ReceiveOutcome) (old new : OutboxOf)
-    → FollowsAnswer answer c old new
-    → Stays old new
+    → FollowsAnswer answer c old new → Stays old new
 answered (what.Taken id) c old new (is, e) = is_same _ new e
 answered _ c old new (is, e) = is_same _ new e
 
@@ -79,7 +70,7 @@ heard_so heard.NoAnswer c old new (is, e) = is_same _ new e
 called : (call : Call) (old new : OutboxOf) → DialogueLeads call old new → Stays old new
 called (Act w now) old new acts = acted (old.aim == old.desk) w now old new acts
 called (Opened opened) old new (line, opens, e) = is_same (with_line old line) new e
-called Lost old new e = is_same _ new e
+called (Lost ended) old new e = is_same _ new e
 called (Sent count) old new e = is_same _ new e
 called (Hear c now piece) old new hears =
     heard_so hears.heard c (with_line old hears.after) new hears.follows

@@ -1,42 +1,31 @@
 -- What is planned for several commands, and for lines and files that are looked at.
-use Rattle.std.proofs.Common.{◌≡◌, ◌∙◌, ◌||◌, ℕ, List, Vec, Global, Bool, true, false, Result, Ok}
-use Rattle.std.proofs.Common.{Err, Option, None, ap, bytes_eq, codes, inl, inr, map, refl, subst}
-use Rattle.std.proofs.Common.{sym}
-use Rattle.std.specs.Prelude.{IfOk}
-use Rattle.std.specs.declared.alloc.AllocError.{AllocError}
+use Rattle.std.proofs.Common.{◌≡◌, ◌∙◌, ℕ, Vec, Bool, true, Err, None, ap, inl, inr, map, refl, sym}
+use Rattle.std.proofs.Common.{◌||◌, List, Global, false, Result, Ok, Option, bytes_eq, codes, subst}
+use Rattle.std.specs.{Prelude.IfOk, declared.alloc.AllocError.AllocError}
 use Rattle.acceptor.specs.declared.entry.Entry.{Entry}
-use Rattle.card_forms.specs.declared.pairs.Pair.{Pair}
-use Rattle.card_forms.specs.Entries.{command_entries}
-use Rattle.card_forms.specs.Remarks.{noted}
+use Rattle.card_forms.specs.{declared.pairs.Pair.Pair, Entries.command_entries, Remarks.noted}
 use Rattle.card_forms.specs.Faults.{IsWrong as AsksNone, Said, said_words}
 use Rattle.card_forms.specs.Pairs.{value_of}
-use Rattle.command_lists.specs.declared.file.FileLines.{FileLines}
-use Rattle.command_lists.specs.declared.file.FileLines.TheVariants as file
-use Rattle.command_lists.specs.Answered.{first_refusal}
-use Rattle.command_lists.specs.Files.{IsOfFile}
-use Rattle.command_lists.specs.Lists.{AreUnfit, IsReadFrom}
-use Rattle.table_hall_views.specs.Refused.{faults_page}
+use Rattle.command_lists.specs.{declared.file.FileLines.FileLines, Answered.first_refusal}
+use Rattle.command_lists.specs.{Files.IsOfFile, Lists.AreUnfit, Lists.IsReadFrom}
+use Rattle.table_people_views.specs.Refused.{faults_page}
 use Rattle.outbox.specs.Items.{ItemsOf}
-use Rattle.wcif.specs.declared.file.FileFault.{FileFault}
-use Rattle.wcif.specs.declared.options.Options.{Options}
+use Rattle.wcif.specs.declared.{file.FileFault.FileFault, options.Options.Options}
 use Rattle.table_views.specs.declared.around.PageContext.{PageContext}
-use Rattle.table_service.specs.declared.plan.Effect.TheVariants as effect
-use Rattle.table_service.specs.declared.plan.RequestPlan.{RequestPlan}
-use Rattle.table_service.specs.declared.plan.PageReply.TheVariants as reply
-use Rattle.table_service.specs.declared.plan.PageStatus.{PageStatus}
-use Rattle.table_service.specs.declared.plan.PageStatus.TheVariants as shown
-use Rattle.table_service.specs.Imports.{PlansCarried, PlansFile, PlansParts, content_of}
-use Rattle.table_service.specs.Imports.{options_of}
+use Rattle.table_service.specs.declared.plan.{RequestPlan.RequestPlan, PageStatus.PageStatus}
+use Rattle.table_service.specs.Imports.{PlansCarried, PlansFile, PlansParts, content_of, options_of}
 use Rattle.table_service.specs.Lists.{LooksAt, PlansAsked, PlansLines, answered, unfit_words}
 use Rattle.table_service.specs.Lists.{is_known, would_be_done}
 use Rattle.table_service.specs.Plans.{IsWrong, RefusesWith, page_after, remark_in}
-use Rattle.table_service.specs.Replying.{ShowsPage}
-use Rattle.table_service.specs.Taking.{PlansEntries}
+use Rattle.table_service.specs.{Replying.ShowsPage, Taking.PlansEntries}
+use Rattle.command_lists.specs.declared.file.FileLines.TheVariants as file
+use Rattle.table_service.specs.declared.plan.Effect.TheVariants as effect
+use Rattle.table_service.specs.declared.plan.PageReply.TheVariants as reply
+use Rattle.table_service.specs.declared.plan.PageStatus.TheVariants as shown
 
 -- a page that is sent
 pub page_shown : (status : PageStatus) (text : List ℕ) (page : Vec ℕ Global) (plan : RequestPlan)
-    → page.items ≡ text
-    → plan ≡ record { reply = reply.Html status page; effect = effect.Ids }
+    → page.items ≡ text → plan ≡ record { reply = reply.Html status page; effect = effect.Ids }
     → ShowsPage status text plan
 page_shown status text page plan is made =
     subst (λ (p : RequestPlan). ShowsPage status text p) (sym made) ((refl, is), refl)

@@ -1,29 +1,22 @@
 -- What a card would be answered now, one attempt after the other and one check after the other.
-use Rattle.std.proofs.Common.{◌≡◌, ◌∙◌, ℕ, zero, suc, ◌+◌, ◌<◌, ◌++◌, ◌||◌, Bool, true, false}
-use Rattle.std.proofs.Common.{List, [], ◌∷◌, length, drop, get_or, slice_get, Option, None, Some}
+use Rattle.std.proofs.Common.{◌≡◌, ◌∙◌, ℕ, zero, suc, ◌+◌, ◌<◌, ◌++◌, ◌||◌, Bool, true, false, List}
+use Rattle.std.proofs.Common.{[], ◌∷◌, length, drop, get_or, slice_get, Option, None, Some}
 use Rattle.std.proofs.Common.{option_map, refl, sym, ap, subst, add-one, arith, cond, not}
-use Rattle.std.specs.List.{list_any}
-use Rattle.std.specs.Option.{option_or}
+use Rattle.std.specs.{List.list_any, Option.option_or}
 use Rattle.cube.specs.declared.moves.Move.{Move}
 use Rattle.attempts.specs.declared.Value.{Value}
-use Rattle.formats.specs.declared.events.Event.{Event}
-use Rattle.formats.specs.declared.events.Format.{Format}
+use Rattle.formats.specs.declared.events.{Event.Event, Format.Format}
 use Rattle.formats.specs.Events.{unit_of}
 use Rattle.rounds.specs.Tables.{Entrant, Table, entrant, fits, list_fault, set_fault}
-use Rattle.texts.specs.declared.answer.Code.{Code}
-use Rattle.texts.specs.declared.answer.Code.TheVariants as code
-use Rattle.texts.specs.declared.command.CardEntry.{CardEntry}
-use Rattle.texts.specs.declared.command.Command.{Command}
-use Rattle.texts.specs.declared.command.Entered.{Entered}
-use Rattle.texts.specs.declared.command.Settings.{Settings}
+use Rattle.texts.specs.declared.{answer.Code.Code, command.Settings.Settings}
+use Rattle.texts.specs.declared.command.{CardEntry.CardEntry, Command.Command, Entered.Entered}
 use Rattle.commands.specs.Accepted.{Opened, card_refusal, card_values, has_outcome, is_wrong}
 use Rattle.commands.specs.Accepted.{lacks_scramble, opened, round_at, round_in, seen_refusal}
 use Rattle.commands.specs.Accepted.{unfit_card_refusal, values_now}
-use Rattle.commands.specs.FaultCodes.{set_code}
-use Rattle.commands.specs.model.Cards.{enters as enters_one}
+use Rattle.commands.specs.{FaultCodes.set_code, model.Cards.enters as enters_one}
+use Rattle.table_service.{specs.Checks.enters, specs.Checks.left_by, proofs.Walks.added}
+use Rattle.texts.specs.declared.answer.Code.TheVariants as code
 use Rattle.rounds.specs.declared.fault.SetFault.TheVariants as set
-use Rattle.table_service.specs.Checks.{enters, left_by}
-use Rattle.table_service.proofs.Walks.{added}
 
 -- ---- what is entered
 
@@ -49,11 +42,9 @@ module _ (e : Event) (scrambles : ℕ → Option (List Move)) (now : List (Optio
       → cond wrong (Some code.WrongOutcome) (cond lacks (Some code.NoScramble) None)
       ≡ unfit_card_refusal e scrambles now
   unfit_by wrong lacks is_wrong_one lacks_one =
-      ap
-      (λ (b : Bool). cond b (Some code.WrongOutcome) (cond lacks (Some code.NoScramble) None))
+      ap (λ (b : Bool). cond b (Some code.WrongOutcome) (cond lacks (Some code.NoScramble) None))
       (sym is_wrong_one)
-      ∙ ap
-      (λ (b : Bool). cond Wrong (Some code.WrongOutcome) (cond b (Some code.NoScramble) None))
+      ∙ ap (λ (b : Bool). cond Wrong (Some code.WrongOutcome) (cond b (Some code.NoScramble) None))
       (sym lacks_one)
 
   wrong_is : (b wrong : Bool) → b ≡ list_any (enters (is_wrong (unit_of e))) now → b ≡ wrong
@@ -77,10 +68,6 @@ module _ (e : Event) (scrambles : ℕ → Option (List Move)) (now : List (Optio
 
 -- ---- the values that a card leaves
 
-drop_none : {X : Type 0} (i : ℕ) → drop i [] ≡ (let none : List X = [] in none)
-drop_none zero = refl
-drop_none (suc i) = refl
-
 module _ (counts : ℕ → Entered → Value) where
   left_next : (k i : ℕ) (xs : List (Option Entered)) (vs : List Value) → i < length xs
       → values_now counts k (drop i xs) (drop i vs)
@@ -96,8 +83,7 @@ module _ (counts : ℕ → Entered → Value) where
   left_next k (suc i) (x ∷ xs) (v ∷ vs) within = left_next k i xs vs (omega arith)
 
   -- one more, as at a step of a loop
-  pub left_more : (i : ℕ) (xs : List (Option Entered)) (vs old new all : List Value)
-      → i < length xs
+  pub left_more : (i : ℕ) (xs : List (Option Entered)) (vs old new all : List Value) → i < length xs
       → new ≡ old ++ left_by (counts (i + 1)) (get_or xs i None) (slice_get vs i)
       → old ++ values_now counts (suc i) (drop i xs) (drop i vs) ≡ all
       → new ++ values_now counts (suc (i + 1)) (drop (i + 1) xs) (drop (i + 1) vs) ≡ all
@@ -106,10 +92,8 @@ module _ (counts : ℕ → Entered → Value) where
       ≡ left_by (counts (i + 1)) (get_or xs i None) (slice_get vs i)
       ++ values_now counts (suc (i + 1)) (drop (i + 1) xs) (drop (i + 1) vs) =
       left_next (suc i) i xs vs within
-      ∙ ap
-      (λ (n : ℕ). left_by (counts n) (get_or xs i None) (slice_get vs i)
-      ++ values_now counts (suc n) (drop n xs) (drop n vs))
-      (sym (add-one i)) in
+      ∙ ap (λ (n : ℕ). left_by (counts n) (get_or xs i None) (slice_get vs i)
+      ++ values_now counts (suc n) (drop n xs) (drop n vs)) (sym (add-one i)) in
       added old new (left_by (counts (i + 1)) (get_or xs i None) (slice_get vs i)) _ _ all adds
       next before
 
@@ -148,30 +132,13 @@ module _ (e : Event) (scrambles : ℕ → Option (List Move)) (card : CardEntry)
   abbrev Fitting : Option Code
   Fitting = unfit_card_refusal e scrambles card.now
 
-  pub refused_unfit : (why : Code) → Some why ≡ Fitting → Some why ≡ Refusal
-  refused_unfit why is =
-      ap (λ (o : Option Code). option_or o (cond t.is_closed (Some code.Closed) Later)) is
-
   fit_is : None ≡ Fitting → cond t.is_closed (Some code.Closed) Later ≡ Refusal
   fit_is is =
       ap (λ (o : Option Code). option_or o (cond t.is_closed (Some code.Closed) Later)) is
 
-  pub refused_closed : None ≡ Fitting → t.is_closed ≡ true → Some code.Closed ≡ Refusal
-  refused_closed is closed =
-      sym (ap (λ (b : Bool). cond b (Some code.Closed) Later) closed) ∙ fit_is is
-
   open_is : None ≡ Fitting → t.is_closed ≡ false → Later ≡ Refusal
   open_is is closed =
       sym (ap (λ (b : Bool). cond b (Some code.Closed) Later) closed) ∙ fit_is is
-
-  pub refused_seen : (why : Code) → None ≡ Fitting → t.is_closed ≡ false
-      → Some why ≡ seen_refusal card.was (entrant t card.number) → Some why ≡ Refusal
-  refused_seen why is closed seen =
-      ap
-      (λ (o : Option Code).
-      option_or o (option_map set_code (set_fault t card.number Values)))
-      seen
-      ∙ open_is is closed
 
   set_by : (b : Bool) → fits t.format t.cutoff Values ≡ b → t.is_closed ≡ false
       → (o : Option Entrant) → None ≡ seen_refusal card.was o → entrant t card.number ≡ o
@@ -179,19 +146,16 @@ module _ (e : Event) (scrambles : ℕ → Option (List Move)) (card : CardEntry)
       ≡ cond b None (Some code.NoMoreAttempts)
   set_by b is closed None seen found = absurd (cc)
   set_by b is closed (Some one) seen found =
-      ap
-      (λ (c : Bool).
+      ap (λ (c : Bool).
       option_map set_code
       (cond c (Some set.Closed) (list_fault t.format t.cutoff Values (entrant t card.number))))
       closed
-      ∙ ap
-      (λ (o : Option Entrant). option_map set_code (list_fault t.format t.cutoff Values o))
+      ∙ ap (λ (o : Option Entrant). option_map set_code (list_fault t.format t.cutoff Values o))
       found
       ∙ ap (λ (c : Bool). option_map set_code (cond c None (Some set.NoMoreAttempts))) is
       ∙ last b
     where
-      last : (c : Bool)
-          → option_map set_code (cond c None (Some set.NoMoreAttempts))
+      last : (c : Bool) → option_map set_code (cond c None (Some set.NoMoreAttempts))
           ≡ cond c None (Some code.NoMoreAttempts)
       last true = refl
       last false = refl
@@ -201,10 +165,8 @@ module _ (e : Event) (scrambles : ℕ → Option (List Move)) (card : CardEntry)
       → fits t.format t.cutoff Values ≡ b → cond b None (Some code.NoMoreAttempts) ≡ Refusal
   refused_last b is closed seen fitting =
       sym (set_by b fitting closed (entrant t card.number) seen refl)
-      ∙ ap
-      (λ (o : Option Code).
-      option_or o (option_map set_code (set_fault t card.number Values)))
-      seen
+      ∙ ap (λ (o : Option Code).
+      option_or o (option_map set_code (set_fault t card.number Values))) seen
       ∙ open_is is closed
 
 not_not : (b : Bool) → not (not b) ≡ b
@@ -214,7 +176,6 @@ not_not false = refl
 pub fits_by : (b more : Bool) (f g : Format) (k l : Option (ℕ × ℕ)) (vs ws : List Value)
     → more ≡ not (fits f k vs) → more ≡ b → f ≡ g → k ≡ l → vs ≡ ws → fits g l ws ≡ not b
 fits_by b more f g k l vs ws is so same_format same_cutoff same_values =
-    sym
-    (ap (λ (x : Format). fits x k vs) same_format
+    sym (ap (λ (x : Format). fits x k vs) same_format
     ∙ ap (λ (x : Option (ℕ × ℕ)). fits g x vs) same_cutoff ∙ ap (fits g l) same_values)
     ∙ sym (not_not (fits f k vs)) ∙ ap not (sym is ∙ so)

@@ -4,10 +4,8 @@ use Rattle.std.proofs.Common.{arith, drop, length, reverse, slice_get, sym}
 use Rattle.std.proofs.lemmas.List.{at_drop_all, at_drop_more, get_or-reverse, length-reverse}
 use Rattle.std.proofs.lemmas.Option.{get_or_from_slice_get}
 use Rattle.acceptor.specs.declared.entry.Entry.{Entry}
-use Rattle.outbox.specs.declared.item.Item.{Item}
-use Rattle.outbox.specs.declared.state.ItemState.{ItemState}
-use Rattle.outbox.specs.Items.{ItemsOf, is_answered}
-use Rattle.outbox.specs.States.{state_of}
+use Rattle.outbox.specs.declared.{item.Item.Item, state.ItemState.ItemState}
+use Rattle.outbox.specs.{Items.ItemsOf, Items.is_answered, States.state_of}
 use Rattle.table_service.specs.Recents.{is_shown, left_after, recent_from, shown_if}
 use Rattle.table_service.proofs.Walks.{added, ended}
 
@@ -17,8 +15,7 @@ module _ (log : List Entry) (list : ItemsOf) where
   still left k = recent_from log list left (drop k (reverse list.items))
 
   next_of : (left k id : ℕ) (item : Item) → k < length list.items
-      → Some (id, item) ≡ slice_get list.items (length list.items - 1 - k)
-      → still left k
+      → Some (id, item) ≡ slice_get list.items (length list.items - 1 - k) → still left k
       ≡ shown_if (is_shown (state_of log item.entry) (is_answered list id) left) item
       (state_of log item.entry)
       ++ still (left_after (state_of log item.entry) left) (k + 1)
@@ -26,12 +23,10 @@ module _ (log : List Entry) (list : ItemsOf) where
       let size = length-reverse list.items in
       let low : k < length (reverse list.items) = omega (arith, within, size) in
       at_drop_more (recent_from log list left) (reverse list.items) k (id, item) low
-      ∙ ap
-      (λ (pair : ℕ × Item).
+      ∙ ap (λ (pair : ℕ × Item).
       recent_from log list left (pair ∷ drop (k + 1) (reverse list.items)))
       (get_or-reverse list.items k (id, item) within
-      ∙ get_or_from_slice_get list.items (length list.items - 1 - k) (id, item) (id, item)
-      (sym is))
+      ∙ get_or_from_slice_get list.items (length list.items - 1 - k) (id, item) (id, item) (sym is))
 
   pub shown_more : (left k id : ℕ) (item : Item) (became : ItemState) (answered shows : Bool)
       (next : ℕ) (old new all : List (Item × ItemState)) → k < length list.items

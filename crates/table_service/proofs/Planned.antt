@@ -1,68 +1,51 @@
 -- What is planned for requests, by cases: entries are taken for forms alone that ask for them.
 use Rattle.std.proofs.Common.{◌≡◌, ◌∙◌, inl, inr, Bool, true, false, ℕ, List, [], ◌∷◌, ap, bytes_eq}
-use Rattle.std.proofs.Common.{codes, subst, sym, Option, None, Some, Result, Ok, Err, refl}
-use Rattle.std.proofs.Common.{get_or, is_some, length, map, slice_get, ◌||◌, if◌then◌else◌}
+use Rattle.std.proofs.Common.{codes, subst, sym, Option, None, Some, Result, Ok, Err, refl, get_or}
+use Rattle.std.proofs.Common.{is_some, length, map, slice_get, ◌||◌, if◌then◌else◌}
 use Rattle.std.proofs.lemmas.Slice.Eq.{bytes_eq-Decides}
 use Rattle.acceptor.specs.declared.entry.Entry.{Entry}
 use Rattle.attempts.specs.declared.Value.{Value}
 use Rattle.http.specs.declared.request.Request.{Request}
-use Rattle.card_forms.specs.declared.cards.CardForm.{CardForm}
-use Rattle.card_forms.specs.declared.faults.CardFormFault.{CardFormFault}
-use Rattle.card_forms.specs.declared.pairs.Pair.{Pair}
+use Rattle.card_forms.specs.declared.{cards.CardForm.CardForm, faults.CardFormFault.CardFormFault}
+use Rattle.card_forms.specs.{declared.pairs.Pair.Pair, Pairs.value_of, Readings.IsReadAs}
 use Rattle.card_forms.specs.Cards.{card_form_of, form_id_of}
 use Rattle.card_forms.specs.Entries.{card_entry, card_in, command_entries, entry_with}
-use Rattle.card_forms.specs.Pairs.{value_of}
-use Rattle.card_forms.specs.Readings.{IsReadAs}
 use Rattle.card_forms.specs.Remarks.{is_same_but_remark, noted}
 use Rattle.table_entry_views.specs.declared.notes.CardNote.{CardNote}
 use Rattle.form_data.specs.Bodies.{parts_of}
-use Rattle.wcif.specs.Lines as printed
 use Rattle.command_lists.specs.Lists.{texts_in}
-use Rattle.outbox.specs.declared.item.Item.{Item}
-use Rattle.outbox.specs.Items.{ItemsOf, item_in}
-use Rattle.outbox.specs.Outboxes.{may_answer}
-use Rattle.table_views.specs.declared.around.PageContext.{PageContext}
-use Rattle.table_views.specs.Editions.{is_latest}
+use Rattle.outbox.specs.{declared.item.Item.Item, Items.ItemsOf, Items.item_in, Outboxes.may_answer}
+use Rattle.table_views.specs.{declared.around.PageContext.PageContext, Editions.is_latest}
 use Rattle.table_views.specs.Logs.{accepted_in}
-use Rattle.texts.specs.declared.command.CardEntry.{CardEntry}
-use Rattle.texts.specs.Fields.{enters_later, was_of}
-use Rattle.table_service.specs.declared.plan.Effect.{Effect}
-use Rattle.table_service.specs.declared.plan.Effect.TheVariants as effect
-use Rattle.table_service.specs.declared.plan.RequestPlan.{RequestPlan}
-use Rattle.table_service.specs.declared.plan.Problem.{Problem}
-use Rattle.table_service.specs.declared.plan.Problem.TheVariants as problem
-use Rattle.table_service.specs.declared.plan.PageReply.{PageReply}
-use Rattle.table_service.specs.declared.plan.PageReply.TheVariants as reply
-use Rattle.table_service.specs.declared.plan.PageStatus.{PageStatus}
-use Rattle.table_service.specs.declared.reading.Resource.{Resource}
-use Rattle.table_service.specs.declared.reading.Resource.TheVariants as asked
-use Rattle.table_service.specs.Answering.{PlansAgainCard, PlansAgainEntry, PlansAgainId}
-use Rattle.table_service.specs.Answering.{PlansAgainIf, PlansAgainItem, PlansAnsweredId}
-use Rattle.table_service.specs.Answering.{PlansAnsweredItem, PlansLeaving, again_entry, card_over}
-use Rattle.table_service.specs.Answering.{id_of}
-use Rattle.table_service.specs.Asked.{asked_at}
-use Rattle.table_service.specs.Checks.{doubts}
-use Rattle.table_service.specs.Gate.{has_token, is_own}
+use Rattle.texts.specs.{declared.command.CardEntry.CardEntry, Fields.enters_later, Fields.was_of}
+use Rattle.table_service.specs.declared.plan.{Effect.Effect, RequestPlan.RequestPlan}
+use Rattle.table_service.specs.declared.plan.{Problem.Problem, PageReply.PageReply}
+use Rattle.table_service.specs.declared.{plan.PageStatus.PageStatus, reading.Resource.Resource}
+use Rattle.table_service.specs.Answering.{PlansAgainCard, PlansAgainId, PlansAgainItem, again_entry}
+use Rattle.table_service.specs.Answering.{PlansAgainEntry, PlansAnsweredId, PlansAnsweredItem}
+use Rattle.table_service.specs.Answering.{PlansAgainIf, PlansLeaving, card_over, id_of}
+use Rattle.table_service.specs.{Asked.asked_at, Checks.doubts, Imports.content_of, Taking.sent_as}
+use Rattle.table_service.specs.{Gate.has_token, Gate.is_own, Lists.would_be_done, Sent.PlansFormAt}
 use Rattle.table_service.specs.Imports.{PlansBody, PlansCarried, PlansPartsIf, boundary_in}
-use Rattle.table_service.specs.Imports.{content_of}
 use Rattle.table_service.specs.Laws.{AsksAgain, AsksBack, AsksFor, AsksForCard, IsForm}
 use Rattle.table_service.specs.Lists.{LooksAt, PlansAsked, PlansLines, PlansListOf, is_known}
-use Rattle.table_service.specs.Lists.{would_be_done}
 use Rattle.table_service.specs.Plans.{HoldsCard, PlansCardAs, PlansCardEntry, PlansCardIf}
 use Rattle.table_service.specs.Plans.{PlansCommand, PlansFit, PlansForm, PlansSpelled, ShowsView}
-use Rattle.table_service.specs.Plans.{are_confirmed, cards_place, is_entered, page_after}
-use Rattle.table_service.specs.Plans.{remark_in}
-use Rattle.table_service.specs.Remarks.{remark_of, remark_under}
+use Rattle.table_service.specs.Plans.{are_confirmed, cards_place, is_entered, page_after, remark_in}
+use Rattle.table_service.specs.{Remarks.remark_of, Remarks.remark_under, Sent.PlansPosted}
 use Rattle.table_service.specs.Replying.{GoesTo, ShowsAs, refuses, shows}
 use Rattle.table_service.specs.Requests.{is_post, is_read, path_of, query_of, sent_pairs}
 use Rattle.table_service.specs.Sent.{PlansAt, PlansAtAnswers, PlansAtLast, PlansAtLines, PlansBy}
-use Rattle.table_service.specs.Sent.{PlansFormAt, PlansPosted}
 use Rattle.table_service.specs.Services.{IsAround, Plans, PlansIf, PlansWith, ServiceOf}
 use Rattle.table_service.specs.Undoing.{PlansUndoCard, PlansUndoEntry, PlansUndoId, PlansUndoIf}
 use Rattle.table_service.specs.Undoing.{PlansUndoItem, may_undo, undone_entry}
 use Rattle.table_service.specs.Taking.{AreTaken, PlansOther, PlansRoom, both_or, has_room, is_sent}
 use Rattle.table_service.specs.Taking.{last_id, other_by, other_in, place_after, place_with}
-use Rattle.table_service.specs.Taking.{sent_as}
+use Rattle.wcif.specs.Lines as printed
+use Rattle.table_service.specs.declared.plan.Effect.TheVariants as effect
+use Rattle.table_service.specs.declared.plan.Problem.TheVariants as problem
+use Rattle.table_service.specs.declared.plan.PageReply.TheVariants as reply
+use Rattle.table_service.specs.declared.reading.Resource.TheVariants as asked
 
 -- the browser is sent on
 abbrev pub GoesOn : PageReply → Type 0
@@ -88,15 +71,12 @@ is_unknown q entry unsent others = unknown_by (item_in q entry.id) entry unsent 
 -- entries that are taken are what the pairs at a path ask for, with this remark of a card, the
 -- browser is sent on, and so much holds besides
 abbrev pub FoundBy : Type 0 → List Entry → ItemsOf → List ℕ → List Pair → List ℕ → PageReply
-    → Effect
-    → Type 0
-FoundBy More log q path pairs remark answer effect.Nothing = Unit {0}
-FoundBy More log q path pairs remark answer effect.Ids = Unit {0}
+    → Effect → Type 0
 FoundBy More log q path pairs remark answer (effect.Take them) =
     More × AsksFor log q path pairs remark them.items × GoesOn answer
 FoundBy More log q path pairs remark answer (effect.Again entry of) =
     More × AsksFor log q path pairs remark (entry ∷ []) × GoesOn answer
-FoundBy More log q path pairs remark answer (effect.Answer of) = Unit {0}
+FoundBy More log q path pairs remark answer _ = Unit {0}
 
 module _ (More : Type 0) (log : List Entry) (q : ItemsOf) (path : List ℕ) (pairs : List Pair)
     (remark : List ℕ) (plan : RequestPlan) where
@@ -169,12 +149,9 @@ module _ (More : Type 0) (log : List Entry) (q : ItemsOf) (path : List ℕ) (pai
     taken_as : (entries : List Entry) → AsksFor log q path pairs remark entries → (what : Effect)
         → AreTaken entries what → GoesOn plan.reply
         → FoundBy More log q path pairs remark plan.reply what
-    taken_as entries asks effect.Nothing are on = absurd are
-    taken_as entries asks effect.Ids are on = absurd are
     taken_as entries asks (effect.Take them) are on =
         (more, subst (λ (es : List Entry). AsksFor log q path pairs remark es) (sym are) asks, on)
-    taken_as entries asks (effect.Again entry of) are on = absurd are
-    taken_as entries asks (effect.Answer of) are on = absurd are
+    taken_as entries asks _ are on = absurd are
 
     module _ (place : List ℕ) (entries : List Entry)
         (asks : AsksFor log q path pairs remark entries) where
@@ -222,8 +199,7 @@ module _ (More : Type 0) (log : List Entry) (q : ItemsOf) (path : List ℕ) (pai
               spells = spells;
               sure = by_log
                   (λ (es : List Entry).
-                  are_confirmed (value_of (codes "sure") pairs) (doubts (accepted_in es) it)
-                  ≡ true)
+                  are_confirmed (value_of (codes "sure") pairs) (doubts (accepted_in es) it) ≡ true)
                   sure;
               alone = refl;
             }
@@ -234,8 +210,7 @@ module _ (More : Type 0) (log : List Entry) (q : ItemsOf) (path : List ℕ) (pai
             → PlansOther known q around (cards_place form.round) (entry ∷ []) plan → Found
         card_taken unsent entered (Some both) others plans = ids plans.1
         card_taken unsent entered None others plans =
-            room (cards_place form.round) (entry ∷ [])
-            (inl (
+            room (cards_place form.round) (entry ∷ []) (inl (
               at,
               card_asked (subst
                   (λ (b : Bool).
@@ -324,8 +299,7 @@ module _ (More : Type 0) (log : List Entry) (q : ItemsOf) (path : List ℕ) (pai
               texts = texts;
               read = are;
               done = by_log
-                  (λ (es : List Entry). (is_known q id || would_be_done es id texts) ≡ true)
-                  done;
+                  (λ (es : List Entry). (is_known q id || would_be_done es id texts) ≡ true) done;
               are = ap (λ (r : List ℕ). command_entries id (map (noted r) texts)) remark_is;
             },
           ))))
@@ -339,8 +313,7 @@ module _ (More : Type 0) (log : List Entry) (q : ItemsOf) (path : List ℕ) (pai
           (is_known q id || would_be_done around.mirror.now id asks.texts) refl asks.plans
 
     list : path ≡ codes "/commands" → (id : Option ℕ)
-        → form_id_of (value_of (codes "id") pairs) ≡ id → PlansListOf around q pairs id plan
-        → Found
+        → form_id_of (value_of (codes "id") pairs) ≡ id → PlansListOf around q pairs id plan → Found
     list at None is plans = refused problem.BadForm plans
     list at (Some id) is plans = lines_asked at id is plans
 
@@ -386,8 +359,7 @@ module _ (More : Type 0) (log : List Entry) (q : ItemsOf) (path : List ℕ) (pai
               id = id;
               is = entry_of enters id card was entry is;
               alone = refl;
-            }
-            (place_with (cards_place card.id) entry.id, plans.0) plans.1
+            } (place_with (cards_place card.id) entry.id, plans.0) plans.1
 
         again_card : (was : Option (List Value)) → was_of (value_of (codes "was") pairs) ≡ was
             → (card : Option CardEntry) → card_in item.entry.text ≡ card
@@ -398,8 +370,7 @@ module _ (More : Type 0) (log : List Entry) (q : ItemsOf) (path : List ℕ) (pai
             again_entered card typed was shows (enters_later (length was) card.now)
             (get_or around.ids.now 0 0) (has_room q 1)
             (again_entry (enters_later (length was) card.now) (get_or around.ids.now 0 0) card
-            around.remark.now was)
-            refl plans
+            around.remark.now was) refl plans
 
       again_if : (item : Item) → item_in q of ≡ Some item → (may : Bool)
           → may_answer around.mirror.now q of ≡ may
@@ -465,14 +436,10 @@ module _ (More : Type 0) (log : List Entry) (q : ItemsOf) (path : List ℕ) (pai
               id = id;
               is = by_log
                   (λ (es : List Entry).
-                  undone_entry (accepted_in es) id card remark ≡ Some entry)
-                  (subst
-                  (λ (r : List ℕ).
-                  undone_entry (accepted_in around.mirror.now) id card r ≡ Some entry)
-                  says is);
+                  undone_entry (accepted_in es) id card remark ≡ Some entry) (subst (λ (r : List ℕ).
+                  undone_entry (accepted_in around.mirror.now) id card r ≡ Some entry) says is);
               alone = refl;
-            }
-            (place_with (cards_place card.id) entry.id, plans.0) plans.1
+            } (place_with (cards_place card.id) entry.id, plans.0) plans.1
 
         back_card : (card : Option CardEntry) → card_in item.entry.text ≡ card
             → PlansUndoCard around q of card plan → Found
@@ -480,8 +447,7 @@ module _ (More : Type 0) (log : List Entry) (q : ItemsOf) (path : List ℕ) (pai
         back_card (Some card) typed plans =
             back_entered card typed (get_or around.ids.now 0 0) (has_room q 1)
             (undone_entry (accepted_in around.mirror.now) (get_or around.ids.now 0 0) card
-            around.remark.now)
-            refl plans
+            around.remark.now) refl plans
 
       back_if : (item : Item) → item_in q of ≡ Some item → (may : Bool)
           → may_undo around.mirror.now q of ≡ may → PlansUndoIf may around q of item plan → Found
@@ -527,8 +493,7 @@ module _ (More : Type 0) (log : List Entry) (q : ItemsOf) (path : List ℕ) (pai
         sent_answers (bytes_eq path (codes "/again")) refl plans
 
     sent : (card one : Bool) → bytes_eq path (codes "/card") ≡ card
-        → bytes_eq path (codes "/command") ≡ one → PlansAt around q path pairs card one plan
-        → Found
+        → bytes_eq path (codes "/command") ≡ one → PlansAt around q path pairs card one plan → Found
     sent true one at other plans =
         card_if ((bytes_eq-Decides path (codes "/card")).0 at)
         (is_latest (accepted_in around.mirror.now)) refl plans
@@ -564,8 +529,7 @@ module _ (s : ServiceOf) (request : Request (List ℕ)) (plan : RequestPlan) whe
             own = own;
             method = post;
             token = subst (λ (t : List ℕ). has_token t (sent_pairs request) ≡ true) is.token so;
-          }
-          around is.mirror is.remark (bytes_eq (path_of request) (codes "/card"))
+          } around is.mirror is.remark (bytes_eq (path_of request) (codes "/card"))
           (bytes_eq (path_of request) (codes "/command")) refl refl plans
 
       by_form : is_post request ≡ true → (imports : Bool)

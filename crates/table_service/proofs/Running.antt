@@ -1,34 +1,24 @@
 -- What all turns come to, one after the other.
 use Rattle.std.proofs.Common.{◌≡◌, ◌∙◌, ◌++◌, ◌∷◌, [], ◌≤◌, ℕ, zero, suc, List, Option, None, Some}
-use Rattle.std.proofs.Common.{ap}
-use Rattle.std.proofs.Common.{append_assoc, arith, drop, option_map, refl, subst, sym, take, true}
-use Rattle.std.specs.List.{AllByRecursion}
-use Rattle.std.specs.Map.{lookup}
-use Rattle.std.specs.Prelude.{nat_eq}
-use Rattle.std.proofs.lemmas.List.{take-append-drop}
+use Rattle.std.proofs.Common.{ap, append_assoc, arith, drop, option_map, refl, subst, sym, take}
+use Rattle.std.proofs.{Common.true, lemmas.List.take-append-drop}
+use Rattle.std.specs.{List.AllByRecursion, Map.lookup, Prelude.nat_eq}
 use Rattle.acceptor.specs.declared.entry.Entry.{Entry}
 use Rattle.card_forms.specs.Remarks.{is_same_but_remark}
 use Rattle.desk_sockets.proofs.Reaching.{both, one}
 use Rattle.desk_talks.specs.Dialogues.{Act, Call as DialogueCall, CallsLead, Reaches}
-use Rattle.outbox.specs.declared.item.Item.{Item}
+use Rattle.outbox.specs.{declared.item.Item.Item, Laws.Fixed, Laws.StaysInTheJournal, Lines.HallOf}
 use Rattle.outbox.specs.Histories.{Aim, Call, CallLeads, History, InDialogue, IsStarted, Leads}
 use Rattle.outbox.specs.Histories.{Look, Restart, Start, Then, World, world}
 use Rattle.outbox.specs.Items.{ItemsOf, item_in, taken_back}
-use Rattle.outbox.specs.Laws.{Fixed, StaysInTheJournal}
-use Rattle.outbox.specs.Lines.{HallOf}
-use Rattle.outbox.specs.Outboxes.{DialogueLeads, OutboxOf}
-use Rattle.outbox.proofs.Lists.{found_front}
+use Rattle.outbox.{specs.Outboxes.DialogueLeads, specs.Outboxes.OutboxOf, proofs.Lists.found_front}
 use Rattle.table_service.specs.Disks.{DiskOf, IsSynced, IsSyncedIn, JournalOf, lines_in}
-use Rattle.table_service.specs.Laws.{IsSentIn}
-use Rattle.table_service.specs.Runs.{Asked, IsReached, KeptUp, Restarted}
-use Rattle.table_service.specs.Runs.{RunsAreOfTheOutbox, StartsOver, TakenStays, Told, Turn}
-use Rattle.table_service.specs.Runs.{TurnLeads, TurnsLead}
-use Rattle.table_service.specs.Services.{IsKept, ServiceOf}
-use Rattle.table_service.specs.Steps.{Aims, Awaits, Hurries, Looks, Mirrors, Step}
-use Rattle.table_service.specs.Steps.{StepLeads, Submits, Tells}
-use Rattle.table_service.specs.Taking.{sent_as}
+use Rattle.table_service.specs.{Laws.IsSentIn, Steps.Submits, Steps.Tells, Taking.sent_as}
+use Rattle.table_service.specs.Runs.{Asked, IsReached, KeptUp, Restarted, RunsAreOfTheOutbox}
+use Rattle.table_service.specs.Runs.{StartsOver, TakenStays, Told, Turn, TurnLeads, TurnsLead}
+use Rattle.table_service.{specs.Services.IsKept, specs.Services.ServiceOf, proofs.Served.same_back}
+use Rattle.table_service.specs.Steps.{Aims, Awaits, Hurries, Looks, Mirrors, Step, StepLeads}
 use Rattle.table_service.proofs.Called.{IsCalled, all_called, nothing_called, single}
-use Rattle.table_service.proofs.Served.{same_back}
 
 module _ (hall : HallOf) where
   -- one after the other
@@ -49,8 +39,7 @@ module _ (hall : HallOf) where
   dialogue_called file [] old new same =
       record { calls = []; lead = ap (λ (o : OutboxOf). world o file) same }
   dialogue_called file (call ∷ calls) old new (next, leads, more) =
-      both
-      (single hall (InDialogue call) (world old file) (world next file) (next, leads, refl))
+      both (single hall (InDialogue call) (world old file) (world next file) (next, leads, refl))
       (dialogue_called file calls next new more)
 
   module _ (file : List ℕ) (old new : ServiceOf) (is : lines_in old.file ≡ Some file)
@@ -147,8 +136,7 @@ module _ (hall : HallOf) where
         synced = starts.synced;
         went =
             single hall (Restart left desk now) (world old.outbox file)
-            (world new.outbox starts.lines)
-            (subst
+            (world new.outbox starts.lines) (subst
             (λ (bytes : List ℕ). IsStarted hall desk now bytes (world new.outbox starts.lines))
             (in_front file more old.file d disk is synced) starts.started);
       }

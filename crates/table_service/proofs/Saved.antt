@@ -1,37 +1,28 @@
 -- A card that is reported as saved is in the log as it was typed, over what its page showed.
-use Rattle.std.proofs.Common.{◌≡◌, ◌∙◌, ◌+◌, ◌==◌, ◌++◌, ◌∷◌, [], Bool, true, false, ℕ, List}
-use Rattle.std.proofs.Common.{ap, cond, eq-eqb, find, map, Option, None, Some, option_map}
-use Rattle.std.proofs.Common.{refl, subst, sym, take, Result, Ok, Err}
+use Rattle.std.proofs.Common.{◌≡◌, ◌∙◌, ◌+◌, ◌==◌, ◌++◌, ◌∷◌, [], Bool, true, false, ℕ, List, ap}
+use Rattle.std.proofs.Common.{cond, eq-eqb, find, map, Option, None, Some, option_map, refl, subst}
+use Rattle.std.proofs.Common.{sym, take, Result, Ok, Err}
 use Rattle.std.specs.Prelude.{slice_get, unwrap_or}
-use Rattle.std.proofs.lemmas.List.{take_more}
-use Rattle.std.proofs.lemmas.Option.{get_or_from_slice_get, slice_get_within}
+use Rattle.std.proofs.lemmas.{List.take_more, Option.get_or_from_slice_get, Option.slice_get_within}
 use Rattle.acceptor.specs.declared.entry.Entry.{Entry}
 use Rattle.attempts.specs.declared.Value.{Value}
-use Rattle.card_forms.specs.Entries.{card_in, card_told}
-use Rattle.card_forms.proofs.SameCards.{card_is_of}
+use Rattle.card_forms.{specs.Entries.card_in, specs.Entries.card_told, proofs.SameCards.card_is_of}
 use Rattle.commands.specs.Accepted.{are_values, card_values, counts_in, is_of, round_by, round_of}
 use Rattle.commands.specs.Accepted.{scramble_of, values_now}
 use Rattle.commands.specs.model.Cards.{scrambles_of, with_outcomes}
-use Rattle.commands.proofs.CardRounds.{card_is, round_dealt}
-use Rattle.commands.proofs.CardSteps.{same_values}
+use Rattle.commands.proofs.{CardRounds.card_is, CardRounds.round_dealt, CardSteps.same_values}
 use Rattle.formats.specs.Events.{event_number, same_event}
 use Rattle.outbox.specs.Cards.{AreSeen, SavedCardIsOverWhatWasSeen, SavedIsEntered, Says}
 use Rattle.outbox.specs.Laws.{IsSo, NeverByGuess}
-use Rattle.outbox.specs.States.{state_of}
-use Rattle.outbox.specs.declared.state.ItemState.{ItemState}
-use Rattle.outbox.specs.declared.state.ItemState.TheVariants as state
+use Rattle.outbox.specs.{States.state_of, declared.state.ItemState.ItemState}
 use Rattle.rounds.specs.Tables.{Entrant, Table, changed, changed_of, entrant, has_number}
-use Rattle.table_views.specs.Logs.{accepted_in}
-use Rattle.table_views.specs.Standing.{values_of}
-use Rattle.texts.specs.Reading.{command_of}
-use Rattle.texts.specs.declared.command.CardEntry.{CardEntry}
-use Rattle.texts.specs.declared.command.Command.{Command}
-use Rattle.texts.specs.declared.command.Command.TheVariants.{Card}
-use Rattle.texts.specs.declared.command.RemarkedCommand.{RemarkedCommand}
-use Rattle.texts.specs.declared.command.RoundId.{RoundId}
-use Rattle.texts.specs.declared.command.Settings.{Settings}
-use Rattle.texts.specs.declared.reading.CommandFault.{CommandFault}
+use Rattle.table_views.specs.{Logs.accepted_in, Standing.values_of}
+use Rattle.texts.specs.{Reading.command_of, declared.reading.CommandFault.CommandFault}
+use Rattle.texts.specs.declared.command.{CardEntry.CardEntry, RemarkedCommand.RemarkedCommand}
+use Rattle.texts.specs.declared.command.Command.{Command, TheVariants.Card}
+use Rattle.texts.specs.declared.command.{RoundId.RoundId, Settings.Settings}
 use Rattle.table_service.specs.Laws.{IsSavedCard, SavedIsTheCard, StandsAt}
+use Rattle.outbox.specs.declared.state.ItemState.TheVariants as state
 
 -- ---- what a card leaves
 
@@ -48,19 +39,16 @@ module _ (n : ℕ) (change : List Value → List Value) where
     where
       step : (b : Bool) → has_number n d ≡ b
           → option_map (λ e. e.values) (find (has_number n) (map (changed_of n change) ds))
-          ≡ option_map (λ e. change e.values) (find (has_number n) ds)
-          → option_map (λ e. e.values)
+          ≡ option_map (λ e. change e.values) (find (has_number n) ds) → option_map (λ e. e.values)
           (cond (has_number n (cond b (made d) d)) (Some (cond b (made d) d))
           (find (has_number n) (map (changed_of n change) ds)))
           ≡ option_map (λ e. change e.values) (cond b (Some d) (find (has_number n) ds))
       step true is later =
-          ap
-          (λ (c : Bool).
+          ap (λ (c : Bool).
           option_map (λ e. e.values)
           (cond c (Some (made d)) (find (has_number n) (map (changed_of n change) ds)))) is
       step false is later =
-          ap
-          (λ (c : Bool).
+          ap (λ (c : Bool).
           option_map (λ e. e.values)
           (cond c (Some d) (find (has_number n) (map (changed_of n change) ds)))) is
           ∙ later
@@ -80,12 +68,10 @@ module _ (before : List Command) (card : CardEntry) (seen : AreSeen before card)
   leaves : round_by (before ++ Card card ∷ []) card.id ≡ Some After
   leaves =
       round_dealt (Card card) card (card_is card) card.id.event card.id.round before
-      ∙ ap
-      (λ (b : Bool).
+      ∙ ap (λ (b : Bool).
       cond b
       (option_map (with_outcomes (scrambles_of before card.id) card) (round_by before card.id))
-      (round_by before card.id))
-      own_round
+      (round_by before card.id)) own_round
       ∙ ap (option_map (with_outcomes (scrambles_of before card.id) card)) seen.opened
 
   abbrev change : List Value → List Value
@@ -96,8 +82,7 @@ module _ (before : List Command) (card : CardEntry) (seen : AreSeen before card)
   are =
       ap (λ (o : Option (List Value)). unwrap_or o [])
       (found_values card.number change seen.round.1.entrants)
-      ∙ ap
-      (λ (o : Option Entrant). unwrap_or (option_map (λ e. change e.values) o) []) seen.held
+      ∙ ap (λ (o : Option Entrant). unwrap_or (option_map (λ e. change e.values) o) []) seen.held
       ∙ ap change (sym (same_values card.was seen.one.values seen.seen))
 
   saved_over : IsSavedCard before card

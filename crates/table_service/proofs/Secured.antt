@@ -4,16 +4,13 @@ use Rattle.std.proofs.lemmas.List.{append-nil}
 use Rattle.acceptor.specs.declared.entry.Entry.{Entry}
 use Rattle.http.specs.declared.request.Request.{Request}
 use Rattle.http1.specs.Fields.{Header}
-use Rattle.http_server.specs.declared.response.Response.{Response}
-use Rattle.http_server.specs.Response.{IsResponse}
-use Rattle.table_service.specs.declared.plan.Effect.{Effect}
-use Rattle.table_service.specs.declared.plan.Effect.TheVariants as effect
-use Rattle.table_service.specs.declared.plan.RequestPlan.{RequestPlan}
-use Rattle.table_service.specs.declared.plan.PageReply.{PageReply}
-use Rattle.table_service.specs.declared.plan.PageReply.TheVariants as reply
-use Rattle.table_service.specs.Laws.{IsSecured}
+use Rattle.http_server.specs.{declared.response.Response.Response, Response.IsResponse}
+use Rattle.table_service.specs.declared.plan.{Effect.Effect, RequestPlan.RequestPlan}
+use Rattle.table_service.specs.{declared.plan.PageReply.PageReply, Laws.IsSecured}
 use Rattle.table_service.specs.Replies.{Writes, fields_with, security}
 use Rattle.table_service.specs.Services.{Answers, DoesAs, ServiceOf, TakesAgain, TakesThem}
+use Rattle.table_service.specs.declared.plan.Effect.TheVariants as effect
+use Rattle.table_service.specs.declared.plan.PageReply.TheVariants as reply
 
 secured_with : (code : ℕ) (field : Header) (content : List ℕ) (r : Response)
     → IsResponse code (fields_with field) content r → IsSecured r
@@ -38,11 +35,9 @@ module _ (plan : RequestPlan) (old new : ServiceOf) (r : Response) where
   again entry of (inr is) = secured_by plan.reply r is.2.writes
 
   secured_as : (what : Effect) → DoesAs what plan old r new → IsSecured r
-  secured_as effect.Nothing does = secured_by plan.reply r does.1
-  secured_as effect.Ids does = secured_by plan.reply r does.1
   secured_as (effect.Take entries) does = taken entries.items does
   secured_as (effect.Again entry of) does = again entry of does
-  secured_as (effect.Answer of) does = secured_by plan.reply r does.1
+  secured_as _ does = secured_by plan.reply r does.1
 
 pub secured : (old new : ServiceOf) (request : Request (List ℕ)) (response : Response)
     → Answers old request response new → IsSecured response

@@ -1,20 +1,16 @@
 -- What was taken, or was known before, is in the list.
 use Rattle.std.proofs.Common.{◌≡◌, ◌∙◌, ◌∷◌, ◌||◌, [], ℕ, Bool, true, false, List, Option, None}
 use Rattle.std.proofs.Common.{Some, ap, cond, refl, subst, sym}
-use Rattle.std.specs.List.{AllByRecursion}
-use Rattle.std.specs.Map.{lookup}
-use Rattle.std.specs.Prelude.{bytes_eq, nat_eq}
+use Rattle.std.specs.{List.AllByRecursion, Map.lookup, Prelude.bytes_eq, Prelude.nat_eq}
 use Rattle.std.proofs.lemmas.Slice.Eq.{bytes_eq-Decides}
 use Rattle.acceptor.specs.declared.entry.Entry.{Entry}
 use Rattle.card_forms.specs.Remarks.{before_remark, is_same_but_remark}
-use Rattle.outbox.specs.declared.item.Item.{Item}
-use Rattle.outbox.specs.declared.item.QueueOutcome.{QueueOutcome}
-use Rattle.outbox.specs.declared.item.QueueOutcome.TheVariants as taken
+use Rattle.outbox.specs.declared.item.{Item.Item, QueueOutcome.QueueOutcome}
 use Rattle.outbox.specs.Items.{ItemsOf, TakesBy, item_in, queued, taken_at}
 use Rattle.outbox.proofs.Lists.{found_front, found_last}
-use Rattle.table_service.specs.Laws.{IsSentIn}
+use Rattle.table_service.specs.{Laws.IsSentIn, Taking.sent_as}
 use Rattle.table_service.specs.Services.{TakesAll, TakesAs, is_new}
-use Rattle.table_service.specs.Taking.{sent_as}
+use Rattle.outbox.specs.declared.item.QueueOutcome.TheVariants as taken
 
 same_text : (text : List ℕ) → is_same_but_remark text text ≡ true
 same_text text = (bytes_eq-Decides (before_remark text) (before_remark text)).1 refl
@@ -24,8 +20,7 @@ queued_stays : (q : ItemsOf) (one e : Entry) (now : ℕ) → IsSentIn q e
     → IsSentIn (queued q one now) e
 queued_stays q one e now is = by (item_in q e.id) refl is
   where
-    by : (o : Option Item) → item_in q e.id ≡ o → sent_as o e ≡ true
-        → IsSentIn (queued q one now) e
+    by : (o : Option Item) → item_in q e.id ≡ o → sent_as o e ≡ true → IsSentIn (queued q one now) e
     by None found none = absurd cc
     by (Some item) found same =
         ap (λ (o : Option Item). sent_as o e)
@@ -65,8 +60,7 @@ module _ (old new : ItemsOf) (entry : Entry) (now : ℕ) where
           → t ≡ cond (bytes_eq item.entry.text entry.text) taken.Same taken.Other
           → (b || is_new t) ≡ true → IsSentIn new entry
       known t true same e so =
-          same_stays entry takes.1
-          (ap (λ (o : Option Item). sent_as o entry) found ∙ same)
+          same_stays entry takes.1 (ap (λ (o : Option Item). sent_as o entry) found ∙ same)
       known taken.New false same e so = absurd (named (bytes_eq item.entry.text entry.text) e)
       known taken.Same false same e so = absurd cc
       known taken.Other false same e so = absurd cc
@@ -109,7 +103,6 @@ by_items (entry ∷ entries) old new same all = (
 )
 
 pub sent_in : (entries : List Entry) (old list : ItemsOf) (now : ℕ) (new : ItemsOf)
-    → TakesAll old entries now list → new.items ≡ list.items
-    → AllByRecursion (IsSentIn new) entries
+    → TakesAll old entries now list → new.items ≡ list.items → AllByRecursion (IsSentIn new) entries
 sent_in entries old list now new takes same =
     by_items entries list new same (all_come entries old list now takes)

@@ -8,13 +8,11 @@ use Rattle.http_server.specs.declared.response.Response.{Response}
 use Rattle.outbox.specs.declared.item.Item.{Item}
 use Rattle.outbox.specs.Items.{ItemsOf, all_kept, items_of, taken_back, with_answer}
 use Rattle.outbox.specs.Outboxes.{AnswersIf, OutboxOf, with_list}
-use Rattle.table_service.specs.declared.plan.Effect.{Effect}
-use Rattle.table_service.specs.declared.plan.RequestPlan.{RequestPlan}
-use Rattle.table_service.specs.Replies.{Writes}
+use Rattle.table_service.specs.declared.plan.{Effect.Effect, RequestPlan.RequestPlan}
+use Rattle.table_service.{specs.Replies.Writes, proofs.TakenOnes.stays_kept}
 use Rattle.table_service.specs.Services.{Answers, AnswersIt, DoesAs, IsKept, KeepsList, Plans}
 use Rattle.table_service.specs.Services.{ServiceOf, StaysKept, TakesAgain, TakesAgainFor, TakesAll}
 use Rattle.table_service.specs.Services.{TakesFor, TakesThem, with_ids_used}
-use Rattle.table_service.proofs.TakenOnes.{stays_kept}
 
 -- ---- what is taken, and taken back
 
@@ -32,8 +30,7 @@ is_low o kept = let same : o.list.kept ≡ length o.list.items = kept.0 in omega
 -- where all is in the journal, nothing is taken back
 pub same_back : (o : OutboxOf) → IsKept o → taken_back o.list ≡ o.list
 same_back o kept =
-    ap
-    (λ (xs : List (ℕ × Item)). items_of xs o.list.kept [] o.list.answered)
+    ap (λ (xs : List (ℕ × Item)). items_of xs o.list.kept [] o.list.answered)
     (ap (λ (k : ℕ). take k o.list.items) kept.0 ∙ take-length o.list.items)
     ∙ ap (λ (ls : List ℕ). items_of o.list.items o.list.kept ls o.list.answered) (sym kept.1)
 
@@ -99,8 +96,7 @@ pub again_left : (entries : List Entry) (entry : Entry) (of : ℕ) (old : Servic
     → entries ≡ entry ∷ [] → done ≡ false → TakesFor done entries old before new response
     → TakesAgainFor entry of old before new response
 again_left entries entry of old before new response done one is takes =
-    inl
-    (subst (λ (es : List Entry). TakesFor false es old before new response) one
+    inl (subst (λ (es : List Entry). TakesFor false es old before new response) one
     (subst (λ (b : Bool). TakesFor b entries old before new response) is takes))
 
 module _ (plan : RequestPlan) (old : ServiceOf) (before response : Response) (new : ServiceOf)

@@ -1,27 +1,19 @@
 -- What is taken for a request, and that nothing else is.
-use Rattle.std.proofs.Common.{◌≡◌, ◌∙◌, ◌⊎◌, ◌∷◌, [], inl, inr, Bool, true, ℕ, List, ap}
-use Rattle.std.proofs.Common.{subst, sym}
+use Rattle.std.proofs.Common.{◌≡◌, ◌∙◌, ◌⊎◌, ◌∷◌, [], inl, inr, Bool, true, ℕ, List, ap, subst, sym}
 use Rattle.acceptor.specs.declared.entry.Entry.{Entry}
 use Rattle.http.specs.declared.request.Request.{Request}
 use Rattle.http_server.specs.declared.response.Response.{Response}
-use Rattle.outbox.specs.Items.{ItemsOf}
-use Rattle.outbox.specs.Outboxes.{with_list}
-use Rattle.table_service.specs.declared.plan.Effect.{Effect}
-use Rattle.table_service.specs.declared.plan.Effect.TheVariants as effect
-use Rattle.table_service.specs.declared.plan.RequestPlan.{RequestPlan}
-use Rattle.table_service.specs.declared.plan.PageReply.{PageReply}
-use Rattle.table_service.specs.declared.plan.PageReply.TheVariants as reply
-use Rattle.table_service.specs.Disks.{IsSynced}
+use Rattle.outbox.specs.{Items.ItemsOf, Outboxes.with_list}
+use Rattle.table_service.specs.declared.plan.{Effect.Effect, RequestPlan.RequestPlan}
+use Rattle.table_service.specs.{declared.plan.PageReply.PageReply, Disks.IsSynced, Replies.Writes}
 use Rattle.table_service.specs.Laws.{AsksFor, IsForm, IsTaken, TakesNothing}
-use Rattle.table_service.specs.Remarks.{remark_of}
-use Rattle.table_service.specs.Replies.{Writes}
-use Rattle.table_service.specs.Requests.{path_of, sent_pairs}
-use Rattle.table_service.specs.Services.{Answers, AnswersIt, DoesAs, IsKept, IsTakenAgain}
-use Rattle.table_service.specs.Services.{KeepsList, LeavesAll, ServiceOf, TakesAll, TakesThem}
-use Rattle.table_service.specs.Services.{with_ids_used}
-use Rattle.table_service.proofs.Planned.{FoundBy, GoesOn, found}
-use Rattle.table_service.proofs.SentOnes.{sent_in}
-use Rattle.table_service.proofs.Served.{all_back, kept_all, same_items}
+use Rattle.table_service.{specs.Remarks.remark_of, proofs.Planned.FoundBy, proofs.SentOnes.sent_in}
+use Rattle.table_service.{specs.Requests.path_of, specs.Requests.sent_pairs, proofs.Planned.GoesOn}
+use Rattle.table_service.specs.Services.{Answers, AnswersIt, IsTakenAgain, KeepsList, with_ids_used}
+use Rattle.table_service.specs.Services.{DoesAs, IsKept, LeavesAll, ServiceOf, TakesAll, TakesThem}
+use Rattle.table_service.proofs.{Planned.found, Served.all_back, Served.kept_all, Served.same_items}
+use Rattle.table_service.specs.declared.plan.Effect.TheVariants as effect
+use Rattle.table_service.specs.declared.plan.PageReply.TheVariants as reply
 
 sent_on : (answer : PageReply) (r : Response) → GoesOn answer → Writes answer r → r.status ≡ 303
 sent_on (reply.SeeOther location) r on (inl is) = is.status

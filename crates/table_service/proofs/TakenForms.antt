@@ -3,52 +3,36 @@ use Rattle.std.proofs.Common.{ℕ, ◌≡◌, [], ◌∷◌, List, Option, None,
 use Rattle.std.proofs.Common.{false, length, map, refl, subst, sym, true}
 use lib.Utf8.{encode}
 use denote.RawPtr.{null_ptr}
-use Rattle.std.specs.Global.{Global, Vec}
-use Rattle.std.specs.List.{range_with_len}
-use Rattle.std.specs.Fmt.{digits}
-use Rattle.std.specs.Str.{chars, is_utf8}
-use Rattle.std.specs.Str.Lossy.{utf8_lossy, utf8_valid_len}
+use Rattle.std.specs.{Global.Global, Global.Vec, List.range_with_len, Fmt.digits}
+use Rattle.std.specs.Str.{chars, is_utf8, Lossy.utf8_lossy, Lossy.utf8_valid_len}
 use Rattle.acceptor.specs.declared.entry.Entry.{Entry}
-use Rattle.card_forms.specs.declared.pairs.Pair.{Pair}
-use Rattle.card_forms.specs.Asking.{IsCommandText}
+use Rattle.card_forms.specs.{declared.pairs.Pair.Pair, Asking.IsCommandText}
 use Rattle.form_urlencoded.specs.Form.{raw_pairs, split}
 use Rattle.percent_encoding.specs.Percent.{percent_decode}
-use Rattle.formats.specs.declared.events.Event.TheVariants as event
-use Rattle.http.specs.declared.request.Request.{Request}
-use Rattle.http.specs.declared.version.TheConstants.Version.{HTTP_11}
+use Rattle.http.specs.declared.{request.Request.Request, version.TheConstants.Version.HTTP_11}
 use Rattle.http1.specs.Fields.{Header}
 use Rattle.http_header.specs.FieldValue.{FieldValue, plain_value}
 use Rattle.http_server.specs.declared.response.Response.{Response}
 use Rattle.kept_mirror.specs.Mirrorings.{new_mirroring}
-use Rattle.outbox.specs.declared.item.QueueOutcome.TheVariants as taken
-use Rattle.outbox.specs.Items.{no_items, queued}
+use Rattle.outbox.specs.{Items.no_items, Items.queued, Worked.seven}
 use Rattle.outbox.specs.Outboxes.{OutboxOf, aimed, new_outbox, with_list}
-use Rattle.outbox.specs.Worked.{seven}
 use Rattle.outbox.specs.WorkedRuns.{file_of_five, five, five_since, new_file}
-use Rattle.table_views.specs.declared.around.PageContext.{PageContext}
-use Rattle.table_views.specs.declared.desks.HallStatus.{HallStatus}
+use Rattle.table_views.specs.declared.{around.PageContext.PageContext, desks.HallStatus.HallStatus}
 use Rattle.scorecard.specs.Spelling.{trimmed}
 use Rattle.texts.specs.Fields.{cut, number_between}
-use Rattle.texts.specs.Names.{is_clear_name}
-use Rattle.texts.specs.Table.{rows}
-use Rattle.texts.specs.declared.command.Command.TheVariants.{Close}
+use Rattle.texts.specs.{Names.is_clear_name, Table.rows, declared.command.Command.TheVariants.Close}
+use Rattle.table_service.specs.{declared.plan.RequestPlan.RequestPlan, Gate.has_token, Steps.Aims}
+use Rattle.table_service.specs.{Disks.disk, Disks.journal, Runs.IsReached, Runs.TurnsLead}
+use Rattle.table_service.specs.{Laws.AsksForOne, Laws.IsTaken, Services.service, Sent.PlansPosted}
+use Rattle.table_service.specs.{Openings.IsOver, Requests.sent_pairs, Replying.refuses}
+use Rattle.table_service.specs.Replies.{fields_with, kind, line_of, text_kind}
+use Rattle.table_service.specs.Services.{Answers, KeepsList, PlansAround, ServiceOf, TakesAll}
+use Rattle.table_service.specs.WorkedTaking.{WorksTaking, turns}
+use Rattle.formats.specs.declared.events.Event.TheVariants as event
+use Rattle.outbox.specs.declared.item.QueueOutcome.TheVariants as taken
 use Rattle.table_service.specs.declared.plan.Effect.TheVariants as effect
-use Rattle.table_service.specs.declared.plan.RequestPlan.{RequestPlan}
 use Rattle.table_service.specs.declared.plan.Problem.TheVariants as problem
 use Rattle.table_service.specs.declared.plan.PageReply.TheVariants as reply
-use Rattle.table_service.specs.Disks.{disk, journal}
-use Rattle.table_service.specs.Gate.{has_token}
-use Rattle.table_service.specs.Laws.{AsksForOne, IsTaken}
-use Rattle.table_service.specs.Openings.{IsOver}
-use Rattle.table_service.specs.Replies.{fields_with, kind, line_of, text_kind}
-use Rattle.table_service.specs.Requests.{sent_pairs}
-use Rattle.table_service.specs.Replying.{refuses}
-use Rattle.table_service.specs.Runs.{IsReached, TurnsLead}
-use Rattle.table_service.specs.Services.{Answers, KeepsList, PlansAround, ServiceOf, TakesAll}
-use Rattle.table_service.specs.Sent.{PlansPosted}
-use Rattle.table_service.specs.Services.{service}
-use Rattle.table_service.specs.Steps.{Aims}
-use Rattle.table_service.specs.WorkedTaking.{WorksTaking, turns}
 
 global : Global
 global = record { memory = record { seal = tt } }
@@ -268,8 +252,7 @@ plans = record {
     waits = refl;
   };
   plans =
-      subst
-      (λ (p : List Pair).
+      subst (λ (p : List Pair).
       PlansPosted around no_items (codes "/command") p (has_token (codes "9f") p) plan)
       (sym are_pairs) posted;
 }

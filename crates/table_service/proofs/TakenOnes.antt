@@ -3,11 +3,10 @@ use Rattle.std.proofs.Common.{◌≡◌, ◌++◌, ◌+◌, ◌∷◌, [], ◌�
 use Rattle.std.proofs.Common.{length, length-append, refl, subst, sym}
 use Rattle.std.proofs.lemmas.List.{take-append-le}
 use Rattle.acceptor.specs.declared.entry.Entry.{Entry}
-use Rattle.outbox.specs.declared.item.Item.{Item}
-use Rattle.outbox.specs.declared.item.QueueOutcome.{QueueOutcome}
-use Rattle.outbox.specs.declared.item.QueueOutcome.TheVariants as taken
+use Rattle.outbox.specs.declared.item.{Item.Item, QueueOutcome.QueueOutcome}
 use Rattle.outbox.specs.Items.{ItemsOf, Takes, TakesBy, item_in, items_of, queued, taken_at}
 use Rattle.table_service.specs.Services.{StaysKept}
+use Rattle.outbox.specs.declared.item.QueueOutcome.TheVariants as taken
 
 module _ (old new : ItemsOf) (entry : Entry) (now : ℕ) (low : old.kept ≤ length old.items) where
   same_kept : new ≡ old → StaysKept old new

@@ -1,8 +1,7 @@
 -- A list of what is to count again, from one place on.
-use Rattle.std.proofs.Common.{◌≡◌, ◌∙◌, ◌+◌, ◌-◌, ◌++◌, ◌∷◌, ◌<◌, ◌≤◌, [], ℕ, List, Option, None}
-use Rattle.std.proofs.Common.{Some, ap, append_assoc, append-nil, arith, map, refl, suc, sym}
-use Rattle.std.specs.List.{range_with_len}
-use Rattle.std.specs.Option.{option_and_then, option_map}
+use Rattle.std.proofs.Common.{◌≡◌, ◌∙◌, ◌+◌, ◌-◌, ◌++◌, ◌∷◌, ◌<◌, [], ℕ, List, Option, None, Some}
+use Rattle.std.proofs.Common.{ap, append_assoc, arith, map, refl, suc, sym}
+use Rattle.std.specs.{List.range_with_len, Option.option_and_then, Option.option_map}
 use Rattle.texts.specs.Fields.{all_of}
 
 module _ {X : Type 0} (f : ℕ → Option X) where
@@ -28,28 +27,14 @@ module _ {X : Type 0} (f : ℕ → Option X) where
         → option_map (λ xs. new ++ xs) (back_from (i + 1) n) ≡ all
     back_more x new below is adds =
         joined x old new adds (back_from (i + 1) n)
-        ∙ ap (λ (o : Option (List X)). option_map (λ xs. old ++ xs) o)
-        (sym
-        (first_of i n below
-        ∙ ap
-        (λ (o : Option X).
-        option_and_then (λ y. option_map (λ ys. y ∷ ys) (back_from (i + 1) n)) o)
-        is))
+        ∙ ap (λ (o : Option (List X)). option_map (λ xs. old ++ xs) o) (sym (first_of i n below
+        ∙ ap (λ (o : Option X).
+        option_and_then (λ y. option_map (λ ys. y ∷ ys) (back_from (i + 1) n)) o) is))
         ∙ before
 
     pub back_none : i < n → f i ≡ None → all ≡ None
     back_none below is =
         sym before
-        ∙ ap (λ (o : Option (List X)). option_map (λ xs. old ++ xs) o)
-        (first_of i n below
-        ∙ ap
-        (λ (o : Option X).
-        option_and_then (λ y. option_map (λ ys. y ∷ ys) (back_from (i + 1) n)) o)
-        is)
-
-    pub back_all : n ≤ i → all ≡ Some old
-    back_all past =
-        let none : n - i ≡ 0 = omega (arith, past) in
-        sym before
-        ∙ ap (λ k. option_map (λ xs. old ++ xs) (all_of (map f (range_with_len i k)))) none
-        ∙ ap Some (append-nil old)
+        ∙ ap (λ (o : Option (List X)). option_map (λ xs. old ++ xs) o) (first_of i n below
+        ∙ ap (λ (o : Option X).
+        option_and_then (λ y. option_map (λ ys. y ∷ ys) (back_from (i + 1) n)) o) is)

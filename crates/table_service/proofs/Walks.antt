@@ -1,9 +1,7 @@
 -- Lists that are walked through from the front, where something is added at each step.
-use Rattle.std.proofs.Common.{◌≡◌, ◌∙◌, ◌+◌, ◌-◌, ◌++◌, ◌∷◌, ◌<◌, ◌≤◌, [], ℕ, List, ap, suc}
-use Rattle.std.proofs.Common.{add-one, append_assoc, arith, drop, drop-cons, flat_map, get_or}
-use Rattle.std.proofs.Common.{length, sym}
-use Rattle.std.proofs.lemmas.List.{append-nil}
-use Rattle.std.specs.List.{range_with_len}
+use Rattle.std.proofs.Common.{◌≡◌, ◌∙◌, ◌+◌, ◌-◌, ◌++◌, ◌∷◌, ◌<◌, ◌≤◌, ℕ, List, ap, suc, drop, sym}
+use Rattle.std.proofs.Common.{[], add-one, append_assoc, arith, drop-cons, flat_map, get_or, length}
+use Rattle.std.{proofs.lemmas.List.append-nil, specs.List.range_with_len}
 
 module _ {X : Type 0} where
   -- what is left from a place on
@@ -28,8 +26,7 @@ module _ {X : Type 0} where
 
 module _ {X : Type 0} (f : ℕ → List X) where
   -- what is left of a range
-  pub range_split : (i n : ℕ) → i < n
-      → flat_map f (range_with_len i (n - i))
+  pub range_split : (i n : ℕ) → i < n → flat_map f (range_with_len i (n - i))
       ≡ f i ++ flat_map f (range_with_len (i + 1) (n - (i + 1)))
   range_split i n below =
       let more : n - i ≡ suc (n - (i + 1)) = omega arith in

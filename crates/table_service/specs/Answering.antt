@@ -3,21 +3,17 @@ use Rattle.std.specs.Prelude.{◌≡◌, ℕ, ◌-◌, ◌^◌, Bool, true, fals
 use Rattle.std.specs.Prelude.{Option, None, Some}
 use Rattle.attempts.specs.declared.Value.{Value}
 use Rattle.acceptor.specs.declared.entry.Entry.{Entry}
-use Rattle.card_forms.specs.declared.pairs.Pair.{Pair}
+use Rattle.card_forms.specs.{declared.pairs.Pair.Pair, Pairs.value_of}
 use Rattle.card_forms.specs.Entries.{card_entry, card_in}
-use Rattle.card_forms.specs.Pairs.{value_of}
-use Rattle.outbox.specs.declared.item.Item.{Item}
-use Rattle.outbox.specs.Items.{ItemsOf, item_in}
-use Rattle.outbox.specs.Outboxes.{may_answer}
+use Rattle.outbox.specs.{declared.item.Item.Item, Items.ItemsOf, Items.item_in, Outboxes.may_answer}
 use Rattle.table_views.specs.declared.around.PageContext.{PageContext}
 use Rattle.texts.specs.declared.command.CardEntry.{CardEntry}
 use Rattle.texts.specs.Fields.{card_entry as over, enters_later, number_between, was_of}
-use Rattle.table_service.specs.declared.plan.Effect.TheVariants as effect
-use Rattle.table_service.specs.declared.plan.RequestPlan.{RequestPlan}
-use Rattle.table_service.specs.declared.plan.Problem.TheVariants as problem
-use Rattle.table_service.specs.Plans.{RefusesWith, cards_place}
-use Rattle.table_service.specs.Replying.{Sends, refuses}
+use Rattle.table_service.specs.{declared.plan.RequestPlan.RequestPlan, Replying.Sends}
+use Rattle.table_service.specs.{Plans.RefusesWith, Plans.cards_place, Replying.refuses}
 use Rattle.table_service.specs.Taking.{has_room, place_with}
+use Rattle.table_service.specs.declared.plan.Effect.TheVariants as effect
+use Rattle.table_service.specs.declared.plan.Problem.TheVariants as problem
 
 -- the id of an item
 abbrev pub id_of : List Pair → Option ℕ
@@ -72,15 +68,13 @@ again_entry false id card remark was = None
 again_entry true id card remark was = card_entry id (card_over card was) remark
 
 abbrev pub PlansAgainCard : PageContext → ItemsOf → ℕ → Option (List Value) → Option CardEntry
-    → RequestPlan
-    → Type 0
+    → RequestPlan → Type 0
 PlansAgainCard around q of None card plan = plan ≡ refuses problem.BadForm
 PlansAgainCard around q of (Some was) None plan = plan ≡ refuses problem.BadForm
 PlansAgainCard around q of (Some was) (Some card) plan =
     PlansAgainEntry (has_room q 1) around q of card
     (again_entry (enters_later (length was) card.now) (get_or around.ids.now 0 0) card
-    around.remark.now was)
-    plan
+    around.remark.now was) plan
 
 abbrev pub PlansAgainIf : Bool → PageContext → ItemsOf → List Pair → ℕ → Item → RequestPlan → Type 0
 PlansAgainIf false around q pairs of item plan =

@@ -1,12 +1,9 @@
 -- What a path and a query ask for (the project's own).
 use Rattle.std.specs.Prelude.{ℕ, Bool, true, false, if◌then◌else◌, bytes_eq, codes, List, drop}
 use Rattle.std.specs.Prelude.{length, take, Option, None, Some, Result, Ok, Err}
-use Rattle.card_forms.specs.Cards.{round_of}
-use Rattle.card_forms.specs.Pairs.{pairs_of, value_of}
-use Rattle.card_forms.specs.Readings.{number_of}
+use Rattle.card_forms.specs.{Cards.round_of, Pairs.pairs_of, Pairs.value_of, Readings.number_of}
 use Rattle.card_forms.specs.declared.faults.NumberFault.{NumberFault}
-use Rattle.texts.specs.declared.command.RoundId.{RoundId}
-use Rattle.texts.specs.Fields.{number_between}
+use Rattle.texts.specs.{declared.command.RoundId.RoundId, Fields.number_between}
 use Rattle.table_service.specs.declared.reading.Resource.{Resource}
 use Rattle.table_service.specs.declared.reading.Resource.TheVariants.{Page, Style, Script}
 use Rattle.table_service.specs.declared.reading.TableView.TheVariants.{Overview, Card, Wall}

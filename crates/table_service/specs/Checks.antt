@@ -1,33 +1,26 @@
 -- What is said of a card before it is taken (the project's own).
-use Rattle.std.specs.Prelude.{ℕ, ◌+◌, ◌*◌, ◌==◌, ◌&&◌, ◌||◌, nat_lt, Bool, true, false}
+use Rattle.std.specs.Prelude.{ℕ, ◌+◌, ◌*◌, ◌==◌, ◌&&◌, ◌||◌, nat_lt, Bool, true, false, option_map}
 use Rattle.std.specs.Prelude.{if◌then◌else◌, List, [], ◌∷◌, ◌++◌, flat_map, filter_map, length}
 use Rattle.std.specs.Prelude.{take, drop, min, get_or, slice_get, Option, None, Some, is_some}
-use Rattle.std.specs.Prelude.{option_and_then, option_map}
-use Rattle.std.specs.List.{list_all, list_any, range_with_len}
-use Rattle.texts.specs.declared.command.Command.{Command}
-use Rattle.texts.specs.declared.command.CardEntry.{CardEntry}
-use Rattle.texts.specs.declared.command.Command.TheVariants.{Card}
-use Rattle.texts.specs.declared.command.RoundId.{RoundId}
-use Rattle.texts.specs.declared.command.Settings.{Settings}
+use Rattle.std.specs.{Prelude.option_and_then, List.list_all, List.list_any, List.range_with_len}
+use Rattle.texts.specs.declared.command.{Command.Command, Command.TheVariants.Card, Entered.Entered}
+use Rattle.texts.specs.declared.command.{CardEntry.CardEntry, RoundId.RoundId, Settings.Settings}
 use Rattle.texts.specs.declared.answer.Code.{Code}
-use Rattle.formats.specs.declared.events.Event.{Event}
-use Rattle.formats.specs.Results.{is_dnf, least}
-use Rattle.commands.specs.Accepted.{card_refusal, card_values, is_solution, is_value, lacks_scramble}
-use Rattle.commands.specs.Accepted.{refusal, round_by, scramble_of, settled}
+use Rattle.formats.specs.{declared.events.Event.Event, Results.is_dnf, Results.least}
+use Rattle.commands.specs.Accepted.{card_refusal, card_values, is_solution, is_value}
+use Rattle.commands.specs.Accepted.{lacks_scramble, refusal, round_by, scramble_of, settled}
 use Rattle.cube.specs.declared.moves.Move.{Move}
 use Rattle.rounds.specs.Tables.{Table}
 use Rattle.attempts.specs.declared.Value.{Value}
-use Rattle.attempts.specs.declared.Value.TheVariants as value
-use Rattle.texts.specs.declared.command.Entered.{Entered}
-use Rattle.texts.specs.declared.command.Entered.TheVariants as entered
 use Rattle.scorecard.specs.declared.fault.ScorecardFault.{ScorecardFault as FieldFault}
-use Rattle.card_forms.specs.declared.faults.NumberFault.{NumberFault}
-use Rattle.card_forms.specs.declared.faults.FieldFaults.{FieldFaults}
+use Rattle.card_forms.specs.declared.faults.{NumberFault.NumberFault, FieldFaults.FieldFaults}
 use Rattle.table_views.specs.Standing.{standing}
 use Rattle.table_entry_views.specs.Bounds.{best_in, floor_of, single_of}
 use Rattle.table_entry_views.specs.declared.notes.CardNote.{CardNote}
-use Rattle.table_entry_views.specs.declared.notes.CardNote.TheVariants as note
 use Rattle.table_service.specs.declared.checks.Bounds.{Bounds}
+use Rattle.attempts.specs.declared.Value.TheVariants as value
+use Rattle.texts.specs.declared.command.Entered.TheVariants as entered
+use Rattle.table_entry_views.specs.declared.notes.CardNote.TheVariants as note
 
 -- ---- times that are unlike the others
 
@@ -67,8 +60,7 @@ others fields place = take place fields ++ drop (place + 1) fields
 -- is one
 abbrev pub is_unlike_those : ℕ → List (Option Entered) → Bool
 is_unlike_those time fields =
-    list_any has_time fields
-    && (list_all (is_short time) fields || list_all (is_long time) fields)
+    list_any has_time fields && (list_all (is_short time) fields || list_all (is_long time) fields)
 
 abbrev pub is_unlike_in : Option ℕ → List (Option Entered) → Bool
 is_unlike_in None fields = false
@@ -247,8 +239,7 @@ is_entered now at = enters (λ x. true) (get_or now at None)
 -- entered
 abbrev pub is_repeat : List (Option Entered) → List Value → Bool
 is_repeat now left =
-    (is_entered now 2 || is_entered now 3)
-    && (is_again (slice_get left 0) (slice_get left 2)
+    (is_entered now 2 || is_entered now 3) && (is_again (slice_get left 0) (slice_get left 2)
     && is_again (slice_get left 1) (slice_get left 3))
     || (is_entered now 3 || is_entered now 4)
     && (is_again (slice_get left 0) (slice_get left 3)

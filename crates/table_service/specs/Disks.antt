@@ -110,8 +110,7 @@ HasFailed old new = Told (λ old new. old.failures < new.failures) old new
 -- those that were kept; or they would be 2^64 bytes and more
 abbrev pub CannotKeep : List ℕ → JournalOf → JournalOf → Type 0
 CannotKeep lines old new =
-    HasFailed old.disk new.disk ⊎ ((old.broken ≡ true)
-    ⊎ (2 ^ 64 ≤ old.length + length lines))
+    HasFailed old.disk new.disk ⊎ ((old.broken ≡ true) ⊎ (2 ^ 64 ≤ old.length + length lines))
 
 -- lines are kept, or it fails
 abbrev pub kept_if : Bool → Option (List ℕ) → List ℕ → Option (List ℕ)

@@ -1,16 +1,11 @@
 -- Which requests are from the program's own pages.
 use Rattle.std.specs.Prelude.{◌≡◌, ℕ, ◌&&◌, nat_le, nat_eq, Bool, List, length, drop, codes}
-use Rattle.std.specs.Prelude.{is_some}
-use Rattle.std.specs.Prelude.{slice_get}
-use Rattle.std.specs.Prelude.{bytes_eq}
+use Rattle.std.specs.Prelude.{is_some, slice_get, bytes_eq}
 use Rattle.std.specs.List.{list_all, list_any, starts_with}
 use Rattle.hex.specs.Hex.{encode_lower}
-use Rattle.http.specs.declared.request.Request.{Request}
-use Rattle.http.specs.Request.{head_of}
-use Rattle.http_header.specs.FieldValue.{FieldValue}
-use Rattle.http_header.specs.HeaderMap.{get_all}
-use Rattle.card_forms.specs.declared.pairs.Pair.{Pair}
-use Rattle.card_forms.specs.Pairs.{value_of}
+use Rattle.http.specs.{declared.request.Request.Request, Request.head_of}
+use Rattle.http_header.specs.{FieldValue.FieldValue, HeaderMap.get_all}
+use Rattle.card_forms.specs.{declared.pairs.Pair.Pair, Pairs.value_of}
 
 -- a value is one of the hosts
 abbrev pub is_host : List (List ℕ) → List ℕ → Bool

@@ -3,25 +3,19 @@ use Rattle.std.specs.Prelude.{◌≡◌, ◌⊎◌, ℕ, Bool, true, false, if�
 use Rattle.std.specs.Prelude.{[], ◌∷◌, Option, None, Some, slice_get}
 use Rattle.http.specs.declared.request.Request.{Request}
 use Rattle.http_header.specs.FieldValue.{FieldValue}
-use Rattle.form_data.specs.Bodies.{parts_of}
-use Rattle.form_data.specs.Headers.{boundary_of}
-use Rattle.form_data.specs.declared.bodies.Part.{Part}
-use Rattle.table_hall_views.specs.Refused.{faults_page}
+use Rattle.form_data.specs.{Bodies.parts_of, Headers.boundary_of, declared.bodies.Part.Part}
+use Rattle.table_people_views.specs.Refused.{faults_page}
 use Rattle.texts.specs.declared.command.Command.{Command}
-use Rattle.wcif.specs.declared.file.FileFault.{FileFault}
-use Rattle.wcif.specs.declared.options.Edition.TheVariants.{Four}
-use Rattle.wcif.specs.declared.options.Options.{Options}
+use Rattle.wcif.specs.{declared.file.FileFault.FileFault, Lines.lines}
+use Rattle.wcif.specs.declared.options.{Edition.TheVariants.Four, Options.Options}
+use Rattle.wcif.specs.Files.{FileFails, SetsUp}
+use Rattle.table_views.specs.declared.around.PageContext.{PageContext}
+use Rattle.table_service.specs.{declared.plan.RequestPlan.RequestPlan, Gate.values_in}
+use Rattle.table_service.specs.{Lists.LooksAt, Replying.ShowsPage, Replying.refuses}
 use Rattle.wcif.specs.declared.options.CumulativeLimits.TheVariants as limits
 use Rattle.wcif.specs.declared.options.SameNames.TheVariants as names
-use Rattle.wcif.specs.Files.{FileFails, SetsUp}
-use Rattle.wcif.specs.Lines.{lines}
-use Rattle.table_views.specs.declared.around.PageContext.{PageContext}
-use Rattle.table_service.specs.declared.plan.RequestPlan.{RequestPlan}
 use Rattle.table_service.specs.declared.plan.Problem.TheVariants as problem
 use Rattle.table_service.specs.declared.plan.PageStatus.TheVariants as shown
-use Rattle.table_service.specs.Gate.{values_in}
-use Rattle.table_service.specs.Lists.{LooksAt}
-use Rattle.table_service.specs.Replying.{ShowsPage, refuses}
 
 -- a part's name and its content
 abbrev pub named : Part → List ℕ × List ℕ

@@ -1,51 +1,33 @@
 -- What holds of each answer of the score table (the project's own).
 use Rattle.std.specs.Prelude.{◌≡◌, ◌⊎◌, ℕ, ◌+◌, ◌++◌, ◌||◌, ◌∷◌, [], true, false, List, Some, Ok}
-use Rattle.std.specs.Prelude.{codes, map, take}
-use Rattle.std.specs.List.{AllByRecursion}
+use Rattle.std.specs.{Prelude.codes, Prelude.map, Prelude.take, List.AllByRecursion}
 use Rattle.acceptor.specs.declared.entry.Entry.{Entry}
 use Rattle.attempts.specs.declared.Value.{Value}
 use Rattle.http.specs.declared.request.Request.{Request}
 use Rattle.http1.specs.Fields.{Header}
-use Rattle.http_server.specs.declared.response.Response.{Response}
-use Rattle.http_server.specs.Response.{fields_of}
-use Rattle.card_forms.specs.declared.cards.CardForm.{CardForm}
-use Rattle.card_forms.specs.declared.pairs.Pair.{Pair}
-use Rattle.card_forms.specs.Asking.{Asks as AsksOf, IsCommandText}
-use Rattle.card_forms.specs.Cards.{card_form_of, form_id_of}
+use Rattle.http_server.specs.{declared.response.Response.Response, Response.fields_of}
+use Rattle.card_forms.specs.declared.{cards.CardForm.CardForm, pairs.Pair.Pair}
+use Rattle.card_forms.specs.{Asking.Asks as AsksOf, Asking.IsCommandText, Cards.form_id_of}
+use Rattle.card_forms.specs.{Cards.card_form_of, Pairs.value_of, Readings.IsReadAs, Remarks.noted}
 use Rattle.card_forms.specs.Entries.{card_entry, card_in, command_entries}
-use Rattle.card_forms.specs.Pairs.{value_of}
-use Rattle.card_forms.specs.Readings.{IsReadAs}
-use Rattle.card_forms.specs.Remarks.{noted}
 use Rattle.command_lists.specs.Lists.{texts_in}
 use Rattle.commands.specs.Accepted.{are_values, card_values, round_by, scramble_of}
 use Rattle.learner.specs.Laws.{IsPrefix}
-use Rattle.outbox.specs.declared.item.Item.{Item}
-use Rattle.outbox.specs.declared.state.ItemState.TheVariants as state
+use Rattle.outbox.specs.{declared.item.Item.Item, Outboxes.may_answer, States.state_of}
 use Rattle.outbox.specs.Items.{ItemsOf, item_in}
-use Rattle.outbox.specs.Outboxes.{may_answer}
-use Rattle.outbox.specs.States.{state_of}
 use Rattle.rounds.specs.Tables.{Table}
-use Rattle.table_views.specs.Editions.{is_latest}
-use Rattle.table_views.specs.Logs.{accepted_in}
-use Rattle.table_views.specs.Standing.{values_of}
-use Rattle.texts.specs.Fields.{was_of}
-use Rattle.texts.specs.declared.command.CardEntry.{CardEntry}
-use Rattle.texts.specs.declared.command.Command.{Command}
-use Rattle.texts.specs.declared.command.Command.TheVariants.{Card}
-use Rattle.texts.specs.declared.command.Settings.{Settings}
-use Rattle.table_service.specs.declared.plan.Problem.TheVariants as problem
-use Rattle.table_service.specs.Answering.{card_over, id_of}
-use Rattle.table_service.specs.Checks.{doubts}
-use Rattle.table_service.specs.Disks.{IsSynced}
-use Rattle.table_service.specs.Gate.{has_token, is_own}
-use Rattle.table_service.specs.Lists.{is_known, would_be_done}
-use Rattle.table_service.specs.Plans.{are_confirmed}
-use Rattle.table_service.specs.Remarks.{remark_of, remark_under}
-use Rattle.table_service.specs.Replies.{IsProblem, security}
+use Rattle.table_views.specs.{Editions.is_latest, Logs.accepted_in, Standing.values_of}
+use Rattle.texts.specs.{Fields.was_of, declared.command.Command.TheVariants.Card}
+use Rattle.texts.specs.declared.command.{CardEntry.CardEntry, Command.Command, Settings.Settings}
+use Rattle.table_service.specs.{Answering.card_over, Remarks.remark_of, Remarks.remark_under}
+use Rattle.table_service.specs.{Answering.id_of, Replies.IsProblem, Replies.security}
+use Rattle.table_service.specs.{Checks.doubts, Disks.IsSynced, Plans.are_confirmed, Taking.is_sent}
+use Rattle.table_service.specs.{Gate.has_token, Gate.is_own, Lists.is_known, Lists.would_be_done}
 use Rattle.table_service.specs.Requests.{is_post, path_of, sent_pairs}
-use Rattle.table_service.specs.Taking.{is_sent}
 use Rattle.table_service.specs.Undoing.{may_undo, undone_entry}
 use Rattle.table_service.specs.Services.{Answers, IsKept, ServiceOf, TakesAll}
+use Rattle.outbox.specs.declared.state.ItemState.TheVariants as state
+use Rattle.table_service.specs.declared.plan.Problem.TheVariants as problem
 
 -- ---- what is taken
 

@@ -4,24 +4,20 @@ use Rattle.std.specs.Prelude.{is_some, map, Option, None, Some}
 use Rattle.std.specs.List.{list_all}
 use Rattle.acceptor.specs.declared.entry.Entry.{Entry}
 use Rattle.texts.specs.declared.answer.Answer.{Answer}
-use Rattle.card_forms.specs.declared.pairs.Pair.{Pair}
-use Rattle.card_forms.specs.Cards.{form_id_of}
-use Rattle.card_forms.specs.Pairs.{value_of}
-use Rattle.card_forms.specs.Entries.{command_entries}
-use Rattle.card_forms.specs.Remarks.{noted}
+use Rattle.card_forms.specs.{declared.pairs.Pair.Pair, Cards.form_id_of, Pairs.value_of}
+use Rattle.card_forms.specs.{Entries.command_entries, Remarks.noted}
 use Rattle.command_lists.specs.Answered.{first_refusal, is_done}
 use Rattle.command_lists.specs.Lists.{AreUnfit, texts_in}
-use Rattle.table_hall_views.specs.declared.preview.PreviewedCommand.{PreviewedCommand}
-use Rattle.table_hall_views.specs.Preview.{preview_page}
+use Rattle.table_people_views.specs.declared.preview.PreviewedCommand.{PreviewedCommand}
+use Rattle.table_people_views.specs.Preview.{preview_page}
 use Rattle.answers.specs.Transcripts.{answers_after}
 use Rattle.outbox.specs.Items.{ItemsOf, item_in}
 use Rattle.table_views.specs.declared.around.PageContext.{PageContext}
-use Rattle.table_service.specs.declared.plan.RequestPlan.{RequestPlan}
-use Rattle.table_service.specs.declared.plan.Problem.TheVariants as problem
-use Rattle.table_service.specs.declared.plan.PageStatus.TheVariants as shown
+use Rattle.table_service.specs.{declared.plan.RequestPlan.RequestPlan, Taking.PlansEntries}
 use Rattle.table_service.specs.Plans.{RefusesWith, page_after, remark_in}
 use Rattle.table_service.specs.Replying.{ShowsPage, refuses}
-use Rattle.table_service.specs.Taking.{PlansEntries}
+use Rattle.table_service.specs.declared.plan.Problem.TheVariants as problem
+use Rattle.table_service.specs.declared.plan.PageStatus.TheVariants as shown
 
 -- what commands would be answered after a log, if the first has this id
 abbrev pub answered : List Entry → ℕ → List (List ℕ) → List Answer
@@ -52,8 +48,7 @@ PlansAsked around q pairs id texts false plan =
 
 -- the lines have commands that can be sent together
 pub record AsksTexts (around : PageContext) (q : ItemsOf) (pairs : List Pair) (id : ℕ)
-    (plan : RequestPlan)
-    : Type 0 where
+    (plan : RequestPlan) : Type 0 where
   pub texts : List (List ℕ)
   pub are : texts_in (value_of (codes "lines") pairs) ≡ Some texts
   pub plans : PlansAsked around q pairs id texts
@@ -63,8 +58,7 @@ pub record AsksTexts (around : PageContext) (q : ItemsOf) (pairs : List Pair) (i
 abbrev pub PlansLines : PageContext → ItemsOf → List Pair → ℕ → RequestPlan → Type 0
 PlansLines around q pairs id plan =
     (AreUnfit (value_of (codes "lines") pairs)
-    × RefusesWith around (page_after pairs) unfit_words plan)
-    ⊎ AsksTexts around q pairs id plan
+    × RefusesWith around (page_after pairs) unfit_words plan) ⊎ AsksTexts around q pairs id plan
 
 abbrev pub PlansListOf : PageContext → ItemsOf → List Pair → Option ℕ → RequestPlan → Type 0
 PlansListOf around q pairs None plan = plan ≡ refuses problem.BadForm
@@ -88,8 +82,7 @@ paired (text ∷ texts) (answer ∷ answers) = (text, answer) ∷ paired texts a
 
 -- the page says what each would be answered, if the first had the first id of the page's forms
 pub record Previews (around : PageContext) (back : List ℕ) (texts : List (List ℕ))
-    (plan : RequestPlan)
-    : Type 0 where
+    (plan : RequestPlan) : Type 0 where
   pub tried : List PreviewedCommand
   pub are : map tried_as tried
       ≡ paired texts (answered around.mirror.now (get_or around.ids.now 0 0) texts)

@@ -1,9 +1,8 @@
 -- A journal's file that is opened (the project's own).
 use Rattle.std.specs.Prelude.{◌≡◌, ◌==◌, ℕ, if◌then◌else◌, List, Option, None, Some}
 use Rattle.std.specs.List.{list_any}
-use Rattle.outbox.specs.Histories.{IsStarted, world}
+use Rattle.outbox.specs.{Histories.IsStarted, Histories.world, Outboxes.OutboxOf}
 use Rattle.outbox.specs.Lines.{HallOf, hall_line, with_end}
-use Rattle.outbox.specs.Outboxes.{OutboxOf}
 use Rattle.table_service.specs.Disks.{DiskOf, IsSynced, JournalOf, Told, lines_in}
 
 -- an outbox over the file of a hall's journal: it is read from these bytes, and the file has their

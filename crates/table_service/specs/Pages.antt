@@ -1,40 +1,28 @@
 -- The pages that are made of the mirror (the project's own).
-use Rattle.std.specs.Prelude.{◌≡◌, ℕ, ◌+◌, ◌-◌, Bool, true, false, nat_lt, List, [], ◌∷◌}
-use Rattle.std.specs.Prelude.{Option, None, Some, get_or, is_some, length, map, min, slice_get}
+use Rattle.std.specs.Prelude.{◌≡◌, ℕ, ◌+◌, ◌-◌, Bool, true, false, nat_lt, List, [], ◌∷◌, Option}
+use Rattle.std.specs.Prelude.{None, Some, get_or, is_some, length, map, min, slice_get}
 use Rattle.std.specs.Option.{option_copied}
 use Rattle.acceptor.specs.declared.entry.Entry.{Entry}
 use Rattle.card_forms.specs.Readings.{number_of}
-use Rattle.outbox.specs.declared.item.Item.{Item}
-use Rattle.outbox.specs.declared.state.ItemState.{ItemState}
-use Rattle.outbox.specs.declared.state.ItemState.TheVariants as state
-use Rattle.outbox.specs.Items.{ItemsOf, item_in}
-use Rattle.outbox.specs.States.{state_of}
+use Rattle.outbox.specs.declared.{item.Item.Item, state.ItemState.ItemState}
+use Rattle.outbox.specs.{Items.ItemsOf, Items.item_in, States.state_of}
 use Rattle.commands.specs.Accepted.{round_by}
-use Rattle.table_entry_views.specs.declared.draft.Draft.{Draft}
-use Rattle.table_entry_views.specs.declared.draft.Draft.TheVariants as draft
-use Rattle.table_entry_views.specs.declared.origin.Origin.{Origin}
-use Rattle.table_entry_views.specs.declared.past.Past.{Past}
-use Rattle.table_entry_views.specs.History.{history_page}
-use Rattle.table_entry_views.specs.Page.{IsCardPage}
-use Rattle.table_hall_views.specs.Importing.{import_page}
-use Rattle.table_hall_views.specs.Overview.{overview}
-use Rattle.table_hall_views.specs.People.{IsPeoplePage}
-use Rattle.table_hall_views.specs.Person.{person_page}
-use Rattle.table_hall_views.specs.Rounds.{rounds_page}
-use Rattle.table_hall_views.specs.Waiting.{waiting_page}
+use Rattle.table_entry_views.specs.declared.{draft.Draft.Draft, origin.Origin.Origin}
+use Rattle.table_entry_views.specs.{declared.past.Past.Past, History.history_page, Page.IsCardPage}
+use Rattle.table_people_views.specs.{Importing.import_page, People.IsPeoplePage, Person.person_page}
+use Rattle.table_round_views.specs.{Overview.overview, Rounds.rounds_page}
+use Rattle.table_people_views.specs.Waiting.{waiting_page}
 use Rattle.last_change.specs.Changes.{IsLastChange}
 use Rattle.last_change.specs.Entering.{AreLastEntering, places, text_enters}
-use Rattle.table_entry_views.specs.paper.Scorecards.{IsScorecards}
-use Rattle.table_entry_views.specs.paper.Wall.{IsWallSheet}
-use Rattle.table_views.specs.declared.around.PageContext.{PageContext}
-use Rattle.table_views.specs.Logs.{accepted_in}
+use Rattle.table_entry_views.specs.paper.{Scorecards.IsScorecards, Wall.IsWallSheet}
+use Rattle.table_views.specs.{declared.around.PageContext.PageContext, Logs.accepted_in}
 use Rattle.table_views.specs.Standing.{standing}
 use Rattle.scorecard.specs.Typed.{entered_typed}
-use Rattle.texts.specs.declared.command.Entered.{Entered}
-use Rattle.texts.specs.declared.command.RoundId.{RoundId}
+use Rattle.texts.specs.declared.command.{Entered.Entered, RoundId.RoundId}
 use Rattle.texts.specs.Fields.{cut_remark}
-use Rattle.table_service.specs.Asked.{number_if}
-use Rattle.table_service.specs.declared.reading.TableView.{TableView}
+use Rattle.table_service.specs.{Asked.number_if, declared.reading.TableView.TableView}
+use Rattle.outbox.specs.declared.state.ItemState.TheVariants as state
+use Rattle.table_entry_views.specs.declared.draft.Draft.TheVariants as draft
 use Rattle.table_service.specs.declared.reading.TableView.TheVariants as view
 
 -- what a card is filled in with that is asked for
@@ -96,8 +84,7 @@ stands_of log round number = min (length (standing (accepted_in log) round numbe
 -- for each attempt that counts, what was entered for it last, as it may be typed
 abbrev pub AreFilled : List Entry → RoundId → ℕ → List (List ℕ) → Type 0
 AreFilled log round number filled =
-    (last : List (Option ℕ))
-    × AreLastEntering log round number (stands_of log round number) last
+    (last : List (Option ℕ)) × AreLastEntering log round number (stands_of log round number) last
     × (filled ≡ all_typed_at log round number last)
 
 abbrev pub AreFilledFor : List Entry → RoundId → Option ℕ → List (List ℕ) → Type 0
@@ -116,18 +103,14 @@ pub record IsCard (q : ItemsOf) (around : PageContext) (round : RoundId) (draft 
   pub past : Past
   pub from : IsOriginFor q around.mirror.now round (number_in draft) past.origin
   pub filled : AreFilledFor around.mirror.now round (number_in draft) past.filled.now
-  pub is : IsCardPage around round draft past
-      (round_by (accepted_in around.mirror.now) round) page
+  pub is : IsCardPage around round draft past (round_by (accepted_in around.mirror.now) round) page
 
 -- ---- the page after a form
 
 -- an item in this state waits, and was taken less than two seconds ago
 abbrev pub waits_since : ItemState → ℕ → Bool
 waits_since state.Waits ago = nat_lt ago 2000
-waits_since (state.Saved position) ago = false
-waits_since (state.Changed position) ago = false
-waits_since (state.Refused position why) ago = false
-waits_since (state.OtherText position) ago = false
+waits_since _ ago = false
 
 abbrev pub item_waits : List Entry → ℕ → Option Item → Bool
 item_waits log now None = false

@@ -1,51 +1,39 @@
 -- What is to be done for a request, by what is around a page (the project's own).
-use Rattle.std.specs.Prelude.{◌≡◌, ◌⊎◌, ℕ, ◌==◌, ◌||◌, Bool, true, false, if◌then◌else◌}
-use Rattle.std.specs.Prelude.{bytes_eq, codes, decimal, List, [], ◌∷◌, ◌++◌}
-use Rattle.std.specs.Prelude.{is_some, Option, None, Some, Result, Ok, Err}
-use Rattle.std.specs.List.{list_all, list_any, slice_split}
+use Rattle.std.specs.Prelude.{◌≡◌, ◌⊎◌, ℕ, ◌==◌, ◌||◌, Bool, true, false, if◌then◌else◌, bytes_eq}
+use Rattle.std.specs.Prelude.{codes, decimal, List, [], ◌∷◌, ◌++◌, is_some, Option, None, Some, Ok}
+use Rattle.std.specs.{Prelude.Result, Prelude.Err, List.list_all, List.list_any, List.slice_split}
 use Rattle.acceptor.specs.declared.entry.Entry.{Entry}
 use Rattle.http.specs.declared.request.Request.{Request}
 use Rattle.formats.specs.Events.{event_name}
-use Rattle.card_forms.specs.declared.cards.CardForm.{CardForm}
-use Rattle.card_forms.specs.declared.faults.CardFault.TheVariants as card
-use Rattle.card_forms.specs.declared.faults.CardFormFault.{CardFormFault}
-use Rattle.card_forms.specs.declared.faults.CardReading.{CardReading}
-use Rattle.card_forms.specs.declared.faults.CardReading.TheVariants as reading
-use Rattle.card_forms.specs.declared.pairs.Pair.{Pair}
-use Rattle.card_forms.specs.Asking.{Asks, IsCommandText}
-use Rattle.card_forms.specs.Cards.{card_form_of, form_id_of}
-use Rattle.card_forms.specs.Entries.{card_entry, card_in, entry_with}
+use Rattle.card_forms.specs.declared.{cards.CardForm.CardForm, pairs.Pair.Pair}
+use Rattle.card_forms.specs.declared.faults.{CardFormFault.CardFormFault, CardReading.CardReading}
+use Rattle.card_forms.specs.{Asking.Asks, Asking.IsCommandText, Entries.card_entry, Entries.card_in}
+use Rattle.card_forms.specs.{Cards.card_form_of, Cards.form_id_of, Pairs.value_of, Remarks.noted}
+use Rattle.card_forms.specs.{Entries.entry_with, Readings.IsNotRead, Readings.IsReadAs}
 use Rattle.card_forms.specs.Faults.{IsWrong as AsksNone, Said, said_words}
-use Rattle.card_forms.specs.Pairs.{value_of}
-use Rattle.card_forms.specs.Readings.{IsNotRead, IsReadAs}
-use Rattle.card_forms.specs.Remarks.{noted}
 use Rattle.outbox.specs.Items.{ItemsOf, item_in}
-use Rattle.table_entry_views.specs.declared.draft.Draft.{Draft}
-use Rattle.table_entry_views.specs.declared.draft.Draft.TheVariants as draft
-use Rattle.table_entry_views.specs.declared.notes.CardNote.{CardNote}
-use Rattle.table_entry_views.specs.declared.notes.CardNote.TheVariants as note
+use Rattle.table_entry_views.specs.declared.{draft.Draft.Draft, notes.CardNote.CardNote}
 use Rattle.table_entry_views.specs.Notes.{note_word}
-use Rattle.table_hall_views.specs.Refused.{refused_page}
-use Rattle.table_views.specs.declared.around.PageContext.{PageContext}
-use Rattle.table_views.specs.Editions.{is_latest}
+use Rattle.table_people_views.specs.Refused.{refused_page}
+use Rattle.table_views.specs.{declared.around.PageContext.PageContext, Editions.is_latest}
 use Rattle.table_views.specs.Logs.{accepted_in}
-use Rattle.texts.specs.declared.command.CardEntry.{CardEntry}
-use Rattle.texts.specs.declared.command.RoundId.{RoundId}
-use Rattle.table_service.specs.declared.plan.Effect.TheVariants as effect
-use Rattle.table_service.specs.declared.plan.RequestPlan.{RequestPlan}
-use Rattle.table_service.specs.declared.plan.Problem.TheVariants as problem
-use Rattle.table_service.specs.declared.plan.PageReply.TheVariants as reply
-use Rattle.table_service.specs.declared.plan.PageStatus.{PageStatus}
-use Rattle.table_service.specs.declared.plan.PageStatus.TheVariants as shown
-use Rattle.table_service.specs.declared.reading.Resource.{Resource}
-use Rattle.table_service.specs.declared.reading.Resource.TheVariants as asked
+use Rattle.texts.specs.declared.command.{CardEntry.CardEntry, RoundId.RoundId}
+use Rattle.table_service.specs.declared.plan.{RequestPlan.RequestPlan, PageStatus.PageStatus}
+use Rattle.table_service.specs.{declared.reading.Resource.Resource, Remarks.remark_under}
 use Rattle.table_service.specs.Asked.{asked_at, number_below, round_below}
-use Rattle.table_service.specs.Checks.{doubts, unread_notes}
-use Rattle.table_service.specs.Pages.{IsCard, IsPage}
+use Rattle.table_service.specs.{Checks.doubts, Checks.unread_notes, Pages.IsCard, Pages.IsPage}
 use Rattle.table_service.specs.Replying.{Sends, ShowsAs, ShowsIf, ShowsPage, refuses, shows}
 use Rattle.table_service.specs.Requests.{path_of, query_of}
-use Rattle.table_service.specs.Remarks.{remark_under}
 use Rattle.table_service.specs.Taking.{PlansEntries, is_sent, place_with}
+use Rattle.card_forms.specs.declared.faults.CardFault.TheVariants as card
+use Rattle.card_forms.specs.declared.faults.CardReading.TheVariants as reading
+use Rattle.table_entry_views.specs.declared.draft.Draft.TheVariants as draft
+use Rattle.table_entry_views.specs.declared.notes.CardNote.TheVariants as note
+use Rattle.table_service.specs.declared.plan.Effect.TheVariants as effect
+use Rattle.table_service.specs.declared.plan.Problem.TheVariants as problem
+use Rattle.table_service.specs.declared.plan.PageReply.TheVariants as reply
+use Rattle.table_service.specs.declared.plan.PageStatus.TheVariants as shown
+use Rattle.table_service.specs.declared.reading.Resource.TheVariants as asked
 
 -- ---- a request that only reads
 
@@ -115,16 +103,14 @@ PlansNoted q around form sure entry notes plan =
 
 -- what was sent already is what it was; else what is to be confirmed of this card is asked first
 abbrev pub PlansFit : Bool → ItemsOf → PageContext → CardForm → List ℕ → Entry → CardEntry
-    → RequestPlan
-    → Type 0
+    → RequestPlan → Type 0
 PlansFit true q around form sure entry card plan = Sends (card_place form) effect.Nothing plan
 PlansFit false q around form sure entry card plan =
     PlansNoted q around form sure entry (doubts (accepted_in around.mirror.now) card) plan
 
 -- by the card that its entry spells
 abbrev pub PlansSpelled : ItemsOf → PageContext → CardForm → List ℕ → Entry → Option CardEntry
-    → RequestPlan
-    → Type 0
+    → RequestPlan → Type 0
 PlansSpelled q around form sure entry None plan = plan ≡ refuses problem.BadForm
 PlansSpelled q around form sure entry (Some card) plan =
     PlansFit (is_sent q entry) q around form sure entry card plan
@@ -198,8 +184,7 @@ page_after pairs =
 -- the form asks for no command: the page says which of its fields is wrong, and why
 abbrev pub IsWrong : PageContext → List Pair → RequestPlan → Type 0
 IsWrong around pairs plan =
-    (it : Said) × AsksNone pairs it
-    × RefusesWith around (page_after pairs) (said_words it) plan
+    (it : Said) × AsksNone pairs it × RefusesWith around (page_after pairs) (said_words it) plan
 
 -- the remark of a command that is entered now
 abbrev pub remark_in : PageContext → List ℕ

@@ -5,30 +5,22 @@ use Rattle.std.specs.List.{AllByRecursion}
 use Rattle.acceptor.specs.declared.entry.Entry.{Entry}
 use Rattle.card_forms.specs.Entries.{card_in}
 use Rattle.last_change.specs.Changes.{IsLastChange}
-use Rattle.outbox.specs.declared.item.Item.{Item}
-use Rattle.outbox.specs.declared.state.ItemState.{ItemState}
-use Rattle.outbox.specs.declared.state.ItemState.TheVariants as state
-use Rattle.outbox.specs.Items.{ItemsOf, is_answered}
-use Rattle.outbox.specs.States.{state_of}
+use Rattle.outbox.specs.declared.{item.Item.Item, state.ItemState.ItemState}
+use Rattle.outbox.specs.{Items.ItemsOf, Items.is_answered, States.state_of}
 use Rattle.table_views.specs.declared.around.Recent.{Recent}
 use Rattle.texts.specs.declared.command.CardEntry.{CardEntry}
+use Rattle.outbox.specs.declared.state.ItemState.TheVariants as state
 
 -- a saved item is shown while this many more saved ones may be shown; any other, until a scoretaker
 -- has answered it
 abbrev pub is_shown : ItemState → Bool → ℕ → Bool
 is_shown (state.Saved position) answered left = nat_lt 0 left
-is_shown state.Waits answered left = not answered
-is_shown (state.Changed position) answered left = not answered
-is_shown (state.Refused position why) answered left = not answered
-is_shown (state.OtherText position) answered left = not answered
+is_shown _ answered left = not answered
 
 -- how many more of what is saved are shown
 abbrev pub left_after : ItemState → ℕ → ℕ
 left_after (state.Saved position) left = left - 1
-left_after state.Waits left = left
-left_after (state.Changed position) left = left
-left_after (state.Refused position why) left = left
-left_after (state.OtherText position) left = left
+left_after _ left = left
 
 abbrev pub shown_if : Bool → Item → ItemState → List (Item × ItemState)
 shown_if shows item became = if shows then (item, became) ∷ [] else []
@@ -63,10 +55,7 @@ IsByOf log text by = IsByCard log (card_in text) by
 -- other
 abbrev pub IsBy : List Entry → List ℕ → ItemState → Option ℕ → Type 0
 IsBy log text (state.Changed position) by = IsByOf log text by
-IsBy log text state.Waits by = by ≡ None
-IsBy log text (state.Saved position) by = by ≡ None
-IsBy log text (state.Refused position why) by = by ≡ None
-IsBy log text (state.OtherText position) by = by ≡ None
+IsBy log text _ by = by ≡ None
 
 abbrev pub IsByIn : List Entry → Recent → Type 0
 IsByIn log recent = IsBy log recent.item.now.entry.text recent.state recent.by

@@ -1,11 +1,10 @@
 -- The remark of what a table enters: its name, and the time of the machine's clock (the project's
 -- own).
-use Rattle.std.specs.Prelude.{ℕ, ◌/◌, ◌%◌, ◌++◌, ◌&&◌, Bool, List, Option, None, Some, codes}
-use Rattle.std.specs.Prelude.{[], if◌then◌else◌, length, nat_le}
+use Rattle.std.specs.Prelude.{ℕ, ◌/◌, ◌%◌, ◌++◌, ◌&&◌, Bool, List, Option, None, Some, codes, []}
+use Rattle.std.specs.Prelude.{if◌then◌else◌, length, nat_le}
 use Rattle.acceptor.specs.declared.entry.Entry.{Entry}
 use Rattle.attempts.specs.Texts.{two_digits}
-use Rattle.table_views.specs.Editions.{is_latest}
-use Rattle.table_views.specs.Logs.{accepted_in}
+use Rattle.table_views.specs.{Editions.is_latest, Logs.accepted_in}
 use Rattle.texts.specs.Names.{is_clear_name}
 
 -- a table can have this name

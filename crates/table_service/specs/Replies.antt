@@ -2,14 +2,12 @@
 use Rattle.std.specs.Prelude.{◌⊎◌, ℕ, List, [], ◌∷◌, ◌++◌, codes}
 use Rattle.http1.specs.Fields.{Header}
 use Rattle.http_header.specs.FieldValue.{IsFieldValue}
-use Rattle.http_server.specs.declared.response.Response.{Response}
-use Rattle.http_server.specs.Response.{IsResponse}
+use Rattle.http_server.specs.{declared.response.Response.Response, Response.IsResponse}
 use Rattle.table_views.specs.Looks.{style, script}
-use Rattle.table_service.specs.declared.plan.Problem.{Problem}
-use Rattle.table_service.specs.declared.plan.Problem.TheVariants as problem
-use Rattle.table_service.specs.declared.plan.PageReply.{PageReply}
-use Rattle.table_service.specs.declared.plan.PageReply.TheVariants as reply
+use Rattle.table_service.specs.declared.plan.{Problem.Problem, PageReply.PageReply}
 use Rattle.table_service.specs.declared.plan.PageStatus.{PageStatus}
+use Rattle.table_service.specs.declared.plan.Problem.TheVariants as problem
+use Rattle.table_service.specs.declared.plan.PageReply.TheVariants as reply
 use Rattle.table_service.specs.declared.plan.PageStatus.TheVariants as shown
 
 -- the fields that each answer has: pages may load what the program serves and nothing else, their
@@ -39,10 +37,7 @@ html_kind = codes "text/html; charset=utf-8"
 -- a page where no page is, and a line of text for every other problem
 abbrev pub kind_of : Problem → List ℕ
 kind_of problem.NotFound = html_kind
-kind_of problem.BadForm = text_kind
-kind_of problem.Foreign = text_kind
-kind_of problem.Method = text_kind
-kind_of problem.Busy = text_kind
+kind_of _ = text_kind
 
 abbrev pub status_of : Problem → ℕ
 status_of problem.BadForm = 400

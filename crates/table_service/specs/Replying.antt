@@ -1,13 +1,10 @@
 -- What is answered for a request, and what changes (the project's own).
 use Rattle.std.specs.Prelude.{◌≡◌, ℕ, List, Option, None, Some}
-use Rattle.table_service.specs.declared.plan.Effect.{Effect}
+use Rattle.table_service.specs.declared.plan.{Effect.Effect, Problem.Problem, PageReply.PageReply}
+use Rattle.table_service.specs.declared.plan.{RequestPlan.RequestPlan, PageStatus.PageStatus}
 use Rattle.table_service.specs.declared.plan.Effect.TheVariants as effect
-use Rattle.table_service.specs.declared.plan.RequestPlan.{RequestPlan}
-use Rattle.table_service.specs.declared.plan.Problem.{Problem}
 use Rattle.table_service.specs.declared.plan.Problem.TheVariants as problem
-use Rattle.table_service.specs.declared.plan.PageReply.{PageReply}
 use Rattle.table_service.specs.declared.plan.PageReply.TheVariants as reply
-use Rattle.table_service.specs.declared.plan.PageStatus.{PageStatus}
 use Rattle.table_service.specs.declared.plan.PageStatus.TheVariants as shown
 
 -- no page, and why

@@ -1,10 +1,8 @@
 -- What is read of a request (the project's own).
 use Rattle.std.specs.Prelude.{ℕ, ◌-◌, ◌^◌, ◌||◌, Bool, List, [], Option, bytes_eq, codes, unwrap_or}
-use Rattle.http.specs.declared.request.Request.{Request}
-use Rattle.http.specs.Request.{head_of}
+use Rattle.http.specs.{declared.request.Request.Request, Request.head_of}
 use Rattle.http_uri.specs.Uri.{uri_path, uri_query}
-use Rattle.card_forms.specs.declared.pairs.Pair.{Pair}
-use Rattle.card_forms.specs.Pairs.{pairs_of, value_of}
+use Rattle.card_forms.specs.{declared.pairs.Pair.Pair, Pairs.pairs_of, Pairs.value_of}
 use Rattle.texts.specs.Fields.{number_between}
 
 abbrev pub path_of : Request (List ℕ) → List ℕ

@@ -6,13 +6,10 @@ use Rattle.http.specs.declared.request.Request.{Request}
 use Rattle.http_server.specs.declared.response.Response.{Response}
 use Rattle.desk_talks.specs.Dialogues.{CallsLead}
 use Rattle.outbox.specs.Histories.{History, Leads, world}
-use Rattle.outbox.specs.Laws.{IsFixed}
-use Rattle.outbox.specs.Lines.{HallOf}
+use Rattle.outbox.specs.{Laws.IsFixed, Lines.HallOf}
 use Rattle.table_service.specs.Disks.{DiskOf, IsSynced, lines_in}
-use Rattle.table_service.specs.Laws.{IsSentIn, IsTaken}
-use Rattle.table_service.specs.Openings.{IsOver}
+use Rattle.table_service.specs.{Laws.IsSentIn, Laws.IsTaken, Openings.IsOver, Steps.IsKeptUp}
 use Rattle.table_service.specs.Services.{Answers, IsKept, ServiceOf}
-use Rattle.table_service.specs.Steps.{IsKeptUp}
 
 -- a request is answered; the loop keeps a service up with the desks; ids, the time or the clock are
 -- given to it; or the program, or its machine, ends, and is started again

@@ -1,20 +1,16 @@
 -- What is to be done for any request of one of the program's own pages.
 use Rattle.std.specs.Prelude.{◌≡◌, ℕ, Bool, true, false, bytes_eq, codes, List}
 use Rattle.http.specs.declared.request.Request.{Request}
-use Rattle.card_forms.specs.declared.pairs.Pair.{Pair}
-use Rattle.card_forms.specs.Pairs.{value_of}
+use Rattle.card_forms.specs.{declared.pairs.Pair.Pair, Pairs.value_of}
 use Rattle.outbox.specs.Items.{ItemsOf}
 use Rattle.table_views.specs.declared.around.PageContext.{PageContext}
-use Rattle.table_service.specs.declared.plan.RequestPlan.{RequestPlan}
-use Rattle.table_service.specs.declared.plan.Problem.TheVariants as problem
+use Rattle.table_service.specs.{declared.plan.RequestPlan.RequestPlan, Gate.has_token}
 use Rattle.table_service.specs.Answering.{PlansAgain, PlansAnswered}
-use Rattle.table_service.specs.Gate.{has_token}
-use Rattle.table_service.specs.Imports.{PlansImport}
+use Rattle.table_service.specs.{Imports.PlansImport, Replying.refuses, Undoing.PlansUndo}
 use Rattle.table_service.specs.Lists.{LooksAt, PlansList}
 use Rattle.table_service.specs.Plans.{PlansCard, PlansCommand, PlansRead, page_after}
-use Rattle.table_service.specs.Replying.{refuses}
 use Rattle.table_service.specs.Requests.{is_post, is_read, path_of, sent_pairs}
-use Rattle.table_service.specs.Undoing.{PlansUndo}
+use Rattle.table_service.specs.declared.plan.Problem.TheVariants as problem
 
 -- by whether the path is that of leaving an item as it is, and that of taking a card back
 abbrev pub PlansAtLast : PageContext → ItemsOf → List Pair → Bool → Bool → RequestPlan → Type 0

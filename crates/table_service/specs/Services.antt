@@ -1,32 +1,23 @@
 -- What the score table answers, and what it accepts (the project's own).
 use Rattle.std.specs.Prelude.{◌≡◌, ◌⊎◌, ◌||◌, ◌≤◌, ℕ, ◌∷◌, [], Bool, true, false, List, drop}
-use Rattle.std.specs.Prelude.{length}
-use Rattle.std.specs.Prelude.{slice_get, Option, None, Some}
+use Rattle.std.specs.Prelude.{length, slice_get, Option, None, Some}
 use Rattle.acceptor.specs.declared.entry.Entry.{Entry}
 use Rattle.http.specs.declared.request.Request.{Request}
 use Rattle.http_server.specs.declared.response.Response.{Response}
 use Rattle.kept_mirror.specs.Mirrorings.{MirroringOf}
 use Rattle.outbox.specs.declared.item.QueueOutcome.{QueueOutcome}
-use Rattle.outbox.specs.declared.item.QueueOutcome.TheVariants as taken
 use Rattle.outbox.specs.Items.{ItemsOf, Takes, all_kept, taken_back}
 use Rattle.outbox.specs.Outboxes.{Answers as AnswersItem, OutboxOf, with_list}
 use Rattle.wire.specs.Entries.{IsEntry}
-use Rattle.table_views.specs.declared.around.PageContext.{PageContext}
-use Rattle.table_views.specs.declared.desks.HallStatus.{HallStatus}
-use Rattle.table_service.specs.declared.plan.Effect.{Effect}
-use Rattle.table_service.specs.declared.plan.Effect.TheVariants as effect
-use Rattle.table_service.specs.declared.plan.RequestPlan.{RequestPlan}
-use Rattle.table_service.specs.declared.plan.Problem.TheVariants as problem
-use Rattle.table_service.specs.Disks.{JournalOf, Keeps}
-use Rattle.table_service.specs.Gate.{is_own}
-use Rattle.table_service.specs.Pages.{waits}
-use Rattle.table_service.specs.Recents.{AreRecent}
-use Rattle.table_service.specs.Remarks.{remark_of}
+use Rattle.table_views.specs.declared.{around.PageContext.PageContext, desks.HallStatus.HallStatus}
+use Rattle.table_service.specs.declared.plan.{Effect.Effect, RequestPlan.RequestPlan}
+use Rattle.table_service.specs.{Disks.JournalOf, Disks.Keeps, Taking.is_sent}
+use Rattle.table_service.specs.{Gate.is_own, Pages.waits, Recents.AreRecent, Remarks.remark_of}
 use Rattle.table_service.specs.Replies.{IsProblem, Writes}
-use Rattle.table_service.specs.Replying.{refuses}
-use Rattle.table_service.specs.Requests.{sent_before}
-use Rattle.table_service.specs.Sent.{PlansOwn}
-use Rattle.table_service.specs.Taking.{is_sent}
+use Rattle.table_service.specs.{Replying.refuses, Requests.sent_before, Sent.PlansOwn}
+use Rattle.outbox.specs.declared.item.QueueOutcome.TheVariants as taken
+use Rattle.table_service.specs.declared.plan.Effect.TheVariants as effect
+use Rattle.table_service.specs.declared.plan.Problem.TheVariants as problem
 
 -- the title of the hall, the name of the table, the hosts and the token of the program, the
 -- commands whose comments propose how later rounds are held, the mirror with what keeps it up, what
@@ -77,8 +68,7 @@ with_ids_used s = record s { ids = drop 1 s.ids }
 
 -- a page is made of the mirror, the items and the desks as they are, with this set of ids
 pub record IsAround (s : ServiceOf) (set : List ℕ) (request : Request (List ℕ))
-    (around : PageContext)
-    : Type 0 where
+    (around : PageContext) : Type 0 where
   pub mirror : around.mirror.now ≡ s.mirroring.entries
   pub desks : around.desks.now ≡ s.desks
   pub token : around.token.now ≡ s.token
@@ -87,12 +77,10 @@ pub record IsAround (s : ServiceOf) (set : List ℕ) (request : Request (List �
   pub remark : around.remark.now ≡ remark_of s.name s.clock
   pub recent : AreRecent s.mirroring.entries s.outbox.list around.recent.now
   pub time : around.now ≡ s.time
-  pub waits : around.waits
-      ≡ waits s.outbox.list s.mirroring.entries s.time (sent_before request)
+  pub waits : around.waits ≡ waits s.outbox.list s.mirroring.entries s.time (sent_before request)
 
 pub record PlansAround (s : ServiceOf) (set : List ℕ) (request : Request (List ℕ))
-    (plan : RequestPlan)
-    : Type 0 where
+    (plan : RequestPlan) : Type 0 where
   pub around : PageContext
   pub is : IsAround s set request around
   pub plans : PlansOwn around s.title s.outbox.list request plan
@@ -118,10 +106,7 @@ StaysKept old new = (taken_back new ≡ taken_back old) × (new.kept ≤ length 
 
 abbrev pub is_new : QueueOutcome → Bool
 is_new taken.New = true
-is_new taken.Same = false
-is_new taken.Other = false
-is_new taken.Unfit = false
-is_new taken.Full = false
+is_new _ = false
 
 -- what taking an entry comes to, whose id and text are in their ranges: whether it is queued, or
 -- was known with its text, whatever the remarks are
@@ -143,8 +128,7 @@ TakesAll old (entry ∷ entries) now new =
 abbrev pub CannotTake : ItemsOf → List Entry → ℕ → Type 0
 CannotTake old [] now = ⊥
 CannotTake old (entry ∷ entries) now =
-    (next : ItemsOf)
-    × (TakesAs false old entry now next
+    (next : ItemsOf) × (TakesAs false old entry now next
     ⊎ (TakesAs true old entry now next × CannotTake next entries now))
 
 abbrev pub TriesAll : Bool → ItemsOf → List Entry → ℕ → ItemsOf → Type 0

@@ -2,9 +2,12 @@
 use Rattle.std.specs.Prelude.{◌≡◌, ℕ, take, Some, Bool, true, false}
 use Rattle.desk_sockets.specs.Asking.{AsksNow}
 use Rattle.desk_talks.specs.Dialogues.{Reaches}
-use Rattle.log_follower.specs.declared.stages.FollowStage.{FollowStage}
-use Rattle.log_follower.specs.declared.stages.FollowStage.TheVariants as stage
-use Rattle.kept_mirror.specs.Mirrorings.{DialogueLeads as MirrorLeads, awaiting, hurried}
+use Rattle.desk_talks.specs.declared.kept_connection.ConnectionStage.{ConnectionStage}
+use Rattle.desk_talks.specs.declared.kept_connection.ConnectionStage.TheVariants as stage
+use Rattle.log_follower.specs.declared.stages.AnswerWorth.{AnswerWorth}
+use Rattle.log_follower.specs.declared.stages.AnswerWorth.TheVariants as worth
+use Rattle.kept_mirror.specs.Mirrorings.{DialogueLeads as MirrorLeads, MirroringOf, awaiting}
+use Rattle.kept_mirror.specs.Mirrorings.{hurried}
 use Rattle.outbox.specs.Outboxes.{DialogueLeads, aimed, looked}
 use Rattle.table_views.specs.declared.desks.HallStatus.{HallStatus}
 use Rattle.table_service.specs.Services.{IsKeptBut, IsSentBut, ServiceOf}
@@ -39,10 +42,15 @@ StepLeads (Tells desks) old new = new ≡ record old { desks = desks }
 abbrev pub IsKeptUp : ServiceOf → ServiceOf → Type 0
 IsKeptUp old new = Reaches StepLeads old new
 
--- the mirror has all that was in the log of the desk that answered last: the next question waits
-abbrev pub has_all : FollowStage → Bool
-has_all (stage.Answered (Some last)) = true
-has_all _ = false
+-- over a connection that is open a desk has answered with something of use, and left nothing of
+-- its log: the next question waits
+abbrev pub has_all_by : AnswerWorth → ConnectionStage → Bool
+has_all_by worth.Useful (stage.Answered (Some last)) = true
+has_all_by _ _ = false
+
+-- the mirror has all that was in the log of the desk that answered last
+abbrev pub has_all : MirroringOf → Bool
+has_all m = has_all_by m.follower.worth m.line.stage
 
 -- in between, what is under way continues over its connection: what the outbox hands out at this
 -- time is given to the submission

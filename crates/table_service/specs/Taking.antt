@@ -1,22 +1,18 @@
 -- Entries that a form asks for, and that are to be taken (the project's own).
-use Rattle.std.specs.Prelude.{◌≡◌, ℕ, ◌-◌, ◌<◌, ◌++◌, ◌==◌, Bool, true, false, if◌then◌else◌}
-use Rattle.std.specs.Prelude.{codes, decimal, nat_le, length, slice_get, List, [], ◌∷◌, All, IfSome}
-use Rattle.std.specs.Prelude.{Option, None, Some, option_map}
-use Rattle.std.specs.List.{list_any}
+use Rattle.std.specs.Prelude.{◌≡◌, ℕ, ◌-◌, ◌<◌, ◌++◌, ◌==◌, Bool, true, false, if◌then◌else◌, codes}
+use Rattle.std.specs.Prelude.{decimal, nat_le, length, slice_get, List, [], ◌∷◌, All, IfSome}
+use Rattle.std.specs.{Prelude.Option, Prelude.None, Prelude.Some, Prelude.option_map, List.list_any}
 use Rattle.acceptor.specs.declared.entry.Entry.{Entry}
 use Rattle.card_forms.specs.Remarks.{is_same_but_remark}
-use Rattle.table_hall_views.specs.Refused.{faults_page}
-use Rattle.outbox.specs.declared.item.Item.{Item}
-use Rattle.outbox.specs.Items.{ItemsOf, item_in}
+use Rattle.table_people_views.specs.Refused.{faults_page}
+use Rattle.outbox.specs.{declared.item.Item.Item, Items.ItemsOf, Items.item_in}
 use Rattle.table_views.specs.declared.around.PageContext.{PageContext}
-use Rattle.texts.specs.declared.command.CardEntry.{CardEntry}
-use Rattle.texts.specs.Spelling.{IsEntered}
-use Rattle.table_service.specs.declared.plan.Effect.{Effect}
+use Rattle.texts.specs.{declared.command.CardEntry.CardEntry, Spelling.IsEntered}
+use Rattle.table_service.specs.declared.plan.{Effect.Effect, RequestPlan.RequestPlan}
+use Rattle.table_service.specs.Replying.{GoesTo, ShowsPage, refuses}
 use Rattle.table_service.specs.declared.plan.Effect.TheVariants as effect
-use Rattle.table_service.specs.declared.plan.RequestPlan.{RequestPlan}
 use Rattle.table_service.specs.declared.plan.Problem.TheVariants as problem
 use Rattle.table_service.specs.declared.plan.PageStatus.TheVariants as shown
-use Rattle.table_service.specs.Replying.{GoesTo, ShowsPage, refuses}
 
 -- the attempts that a card enters are few, and in their ranges
 pub record IsFitCard (card : CardEntry) : Type 0 where
@@ -41,8 +37,7 @@ other_by (Some item) entry =
 abbrev pub other_of : ItemsOf → Entry → Option (List ℕ)
 other_of q entry = other_by (item_in q entry.id) entry
 
-abbrev pub both_or : Option (List ℕ) → List ℕ → Option (List ℕ × List ℕ)
-    → Option (List ℕ × List ℕ)
+abbrev pub both_or : Option (List ℕ) → List ℕ → Option (List ℕ × List ℕ) → Option (List ℕ × List ℕ)
 both_or None sent later = later
 both_or (Some known) sent later = Some (known, sent)
 
@@ -89,8 +84,7 @@ PlansRoom true back entries plan =
     TakesThem (place_after back (last_id entries)) entries plan
 
 abbrev pub PlansOther : Option (List ℕ × List ℕ) → ItemsOf → PageContext → List ℕ → List Entry
-    → RequestPlan
-    → Type 0
+    → RequestPlan → Type 0
 PlansOther (Some both) q around back entries plan =
     ShowsPage shown.Wrong (faults_page around back (both_words both.0 both.1)) plan
 PlansOther None q around back entries plan =

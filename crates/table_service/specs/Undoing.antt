@@ -1,40 +1,28 @@
 -- A card that is taken back (the project's own).
-use Rattle.std.specs.Prelude.{◌≡◌, ℕ, ◌&&◌, Bool, true, false, if◌then◌else◌, not, nat_le}
-use Rattle.std.specs.Prelude.{nat_lt, codes, get_or, length, List, map, slice_get}
-use Rattle.std.specs.Prelude.{option_map, Option, None, Some}
-use Rattle.std.specs.List.{range_with_len}
-use Rattle.std.specs.Option.{option_and_then}
-use Rattle.attempts.specs.declared.Unit.{Unit as Measure}
-use Rattle.attempts.specs.declared.Unit.TheVariants as measure
-use Rattle.attempts.specs.declared.Value.{Value}
-use Rattle.attempts.specs.declared.Value.TheVariants as value
+use Rattle.std.specs.Prelude.{◌≡◌, ℕ, ◌&&◌, Bool, true, false, if◌then◌else◌, not, nat_le, nat_lt}
+use Rattle.std.specs.Prelude.{codes, get_or, length, List, map, slice_get, option_map, Option, None}
+use Rattle.std.specs.{Prelude.Some, List.range_with_len, Option.option_and_then}
+use Rattle.attempts.specs.declared.{Unit.Unit as Measure, Value.Value}
 use Rattle.acceptor.specs.declared.entry.Entry.{Entry}
-use Rattle.card_forms.specs.declared.pairs.Pair.{Pair}
-use Rattle.card_forms.specs.Entries.{card_entry, card_in}
+use Rattle.card_forms.specs.{declared.pairs.Pair.Pair, Entries.card_entry, Entries.card_in}
 use Rattle.commands.specs.Accepted.{card_values, round_by, scramble_of}
 use Rattle.formats.specs.Events.{unit_of}
-use Rattle.outbox.specs.declared.item.Item.{Item}
-use Rattle.outbox.specs.declared.state.ItemState.{ItemState}
-use Rattle.outbox.specs.declared.state.ItemState.TheVariants as state
-use Rattle.outbox.specs.Items.{ItemsOf, is_answered, item_in}
-use Rattle.outbox.specs.Outboxes.{state_in}
-use Rattle.table_views.specs.declared.around.PageContext.{PageContext}
-use Rattle.table_views.specs.Logs.{accepted_in}
-use Rattle.texts.specs.declared.command.CardEntry.{CardEntry}
-use Rattle.texts.specs.declared.command.Command.{Command}
-use Rattle.texts.specs.declared.command.Entered.{Entered}
-use Rattle.texts.specs.declared.command.Entered.TheVariants as entered
-use Rattle.texts.specs.declared.command.RoundId.{RoundId}
-use Rattle.texts.specs.declared.command.Settings.{Settings}
+use Rattle.outbox.specs.declared.{item.Item.Item, state.ItemState.ItemState}
+use Rattle.outbox.specs.{Items.ItemsOf, Items.is_answered, Items.item_in, Outboxes.state_in}
+use Rattle.table_views.specs.{declared.around.PageContext.PageContext, Logs.accepted_in}
+use Rattle.texts.specs.declared.command.{CardEntry.CardEntry, Command.Command, Entered.Entered}
+use Rattle.texts.specs.declared.command.{RoundId.RoundId, Settings.Settings}
 use Rattle.texts.specs.Fields.{all_of, card_entry as over}
-use Rattle.table_service.specs.declared.plan.Effect.TheVariants as effect
-use Rattle.table_service.specs.declared.plan.RequestPlan.{RequestPlan}
-use Rattle.table_service.specs.declared.plan.Problem.TheVariants as problem
+use Rattle.table_service.specs.{declared.plan.RequestPlan.RequestPlan, Checks.is_left}
 use Rattle.table_service.specs.Answering.{id_of, place_of}
-use Rattle.table_service.specs.Checks.{is_left}
-use Rattle.table_service.specs.Plans.{RefusesWith, cards_place}
-use Rattle.table_service.specs.Replying.{Sends, refuses}
-use Rattle.table_service.specs.Taking.{has_room, place_with}
+use Rattle.table_service.specs.{Plans.RefusesWith, Plans.cards_place, Replying.Sends}
+use Rattle.table_service.specs.{Replying.refuses, Taking.has_room, Taking.place_with}
+use Rattle.attempts.specs.declared.Unit.TheVariants as measure
+use Rattle.attempts.specs.declared.Value.TheVariants as value
+use Rattle.outbox.specs.declared.state.ItemState.TheVariants as state
+use Rattle.texts.specs.declared.command.Entered.TheVariants as entered
+use Rattle.table_service.specs.declared.plan.Effect.TheVariants as effect
+use Rattle.table_service.specs.declared.plan.Problem.TheVariants as problem
 
 -- ---- what is to count again
 
@@ -121,8 +109,7 @@ PlansUndoCard around q of None plan = plan ≡ refuses problem.BadForm
 PlansUndoCard around q of (Some card) plan =
     PlansUndoEntry (has_room q 1) around of card.id
     (undone_entry (accepted_in around.mirror.now) (get_or around.ids.now 0 0) card
-    around.remark.now)
-    plan
+    around.remark.now) plan
 
 abbrev pub PlansUndoIf : Bool → PageContext → ItemsOf → ℕ → Item → RequestPlan → Type 0
 PlansUndoIf false around q of item plan =

@@ -1,12 +1,9 @@
 -- A command that is sent to a score table, and a start after a crash.
 use Rattle.std.specs.Prelude.{◌≡◌, ℕ, false, List, [], ◌∷◌, codes}
-use Rattle.http.specs.declared.request.Request.{Request}
-use Rattle.http.specs.Request.{body_of}
+use Rattle.http.specs.{declared.request.Request.Request, Request.body_of}
 use Rattle.http_server.specs.declared.response.Response.{Response}
-use Rattle.outbox.specs.Worked.{seven}
-use Rattle.outbox.specs.WorkedRuns.{five}
-use Rattle.table_service.specs.Gate.{is_own}
-use Rattle.table_service.specs.Laws.{IsTaken}
+use Rattle.outbox.specs.{Worked.seven, WorkedRuns.five}
+use Rattle.table_service.specs.{Gate.is_own, Laws.IsTaken}
 use Rattle.table_service.specs.Runs.{IsReached, KeptUp, Restarted, Turn, TurnsLead}
 use Rattle.table_service.specs.Services.{Answers, IsKept, ServiceOf}
 

@@ -4,9 +4,8 @@ ghost use Rattle.std.specs.Prelude.{◌≡◌, IfOk, Some, length, true};
 ghost use Rattle.std.specs.Option.{option_copied};
 ghost use Rattle.outbox.specs.Outboxes.{may_answer};
 ghost use Rattle.texts.specs.Fields.{enters_later};
-ghost use Rattle.table_service.specs.Answering.{PlansAgain, PlansAgainCard};
-ghost use Rattle.table_service.specs.Answering.{PlansAgainIf, PlansAnswered, PlansLeaving};
-ghost use Rattle.table_service.specs.Answering.{again_entry, id_of, place_of};
+ghost use Rattle.table_service.specs.Answering.{PlansAgain, PlansLeaving, again_entry, place_of};
+ghost use Rattle.table_service.specs.Answering.{PlansAgainCard, PlansAgainIf, PlansAnswered, id_of};
 
 use crate::commanding::refuse;
 use crate::entering::cards_place;
@@ -18,8 +17,8 @@ use card_forms::{FormId, Pairs, card_entry, card_in};
 use mirror::Mirror;
 use outbox::{Item, ItemState, Outbox};
 use std::alloc::{AllocError, Global};
-use table_views::PageContext;
-use texts::{CardEntry, Entered, SeenValues, number_between, was_of};
+use table_views::{PageContext, enters_later};
+use texts::{CardEntry, SeenValues, number_between, was_of};
 
 /// The greatest id of an entry, 2^63 - 1.
 const MOST_ID: u64 = 9_223_372_036_854_775_807;
@@ -91,13 +90,6 @@ pub(crate) fn plan_answered(
         Some(item) => plan_leaving(alloc, item, of, may_answer(outbox, around.mirror, of)),
         None => Ok(RequestPlan::problem(Problem::BadForm)),
     }
-}
-
-/// Whether something is entered for each attempt after those that count, this many.
-fn enters_later(stands: usize, now: &[Option<Entered>]) -> bool
-    ensures { result ≡ enters_later stands now.now }
-{
-    now.iter().skip(stands).all(|outcome| outcome.is_some())
 }
 
 /// The entry of a card over these values, under an id, with a remark; none where the card leaves an

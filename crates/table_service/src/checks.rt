@@ -1,19 +1,17 @@
 //! What is said of a card before it is taken.
 
-ghost use Rattle.std.specs.Prelude.{◌≡◌, ◌++◌, ◌∷◌, [], ◌<◌, ◌≤◌, ◌^◌, IfOk, IfSome, OnOk};
-ghost use Rattle.std.specs.Prelude.{All, length};
+ghost use Rattle.std.specs.Prelude.{◌≡◌, ◌++◌, ◌∷◌, [], ◌<◌, ◌≤◌, ◌^◌, IfOk, IfSome, OnOk, All};
+ghost use Rattle.std.specs.{Prelude.length, List.list_all, List.list_any};
 ghost use Rattle.texts.specs.Spelling.{IsEntered};
-ghost use Rattle.std.specs.List.{list_all, list_any};
 ghost use Rattle.commands.specs.Accepted.{is_solution, scramble_of};
-ghost use Rattle.table_service.specs.Checks.{best_elsewhere, best_here, bounds_of, change_at};
-ghost use Rattle.table_service.specs.Checks.{change_notes, doubts, enters, fast_at, field_note};
-ghost use Rattle.table_service.specs.Checks.{field_notes, half_at, has_time, is_again, is_entered};
-ghost use Rattle.table_service.specs.Checks.{is_failed, is_fast, is_half, is_half_of, is_left};
-ghost use Rattle.table_service.specs.Checks.{is_long, is_repeat, is_short, is_unlike};
-ghost use Rattle.table_service.specs.Checks.{is_unlike_those, left_notes, left_of, number_notes};
-ghost use Rattle.table_service.specs.Checks.{refused_notes, repeat_notes, single_beside, time_at};
-ghost use Rattle.table_service.specs.Checks.{time_notes, time_of, unlike_at, unread_notes};
-ghost use Rattle.table_service.specs.Checks.{unsolved_at, unsolved_notes};
+ghost use Rattle.table_service.specs.Checks.{best_elsewhere, is_unlike_those, unsolved_notes};
+ghost use Rattle.table_service.specs.Checks.{best_here, change_notes, refused_notes, single_beside};
+ghost use Rattle.table_service.specs.Checks.{bounds_of, change_at, fast_at, left_notes, time_notes};
+ghost use Rattle.table_service.specs.Checks.{doubts, half_at, is_again, is_fast, is_half, is_short};
+ghost use Rattle.table_service.specs.Checks.{enters, is_left, is_long, left_of, time_at, time_of};
+ghost use Rattle.table_service.specs.Checks.{field_note, is_entered, is_half_of, unsolved_at};
+ghost use Rattle.table_service.specs.Checks.{field_notes, number_notes, repeat_notes, unread_notes};
+ghost use Rattle.table_service.specs.Checks.{has_time, is_failed, is_repeat, is_unlike, unlike_at};
 
 use crate::refusing::{refusal_of, value_at, values_left};
 use attempts::Value;

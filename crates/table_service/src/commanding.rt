@@ -1,14 +1,12 @@
 //! A command that is sent.
 
 ghost use Rattle.std.specs.Prelude.{◌≡◌, ◌∷◌, [], IfOk};
-ghost use Rattle.card_forms.specs.Entries.{entry_with};
-ghost use Rattle.card_forms.specs.Remarks.{noted as noted_with};
+ghost use Rattle.card_forms.specs.{Entries.entry_with, Remarks.noted as noted_with};
 ghost use Rattle.card_forms.specs.Faults.{IsWrong as AsksNone};
-ghost use Rattle.table_hall_views.specs.Refused.{faults_page};
+ghost use Rattle.table_people_views.specs.Refused.{faults_page};
 ghost use Rattle.table_service.specs.Plans.{IsWrong, PlansCommand, RefusesWith, has_forms};
 ghost use Rattle.table_service.specs.Plans.{page_after, remark_in};
-ghost use Rattle.table_service.specs.Replying.{ShowsPage};
-ghost use Rattle.table_service.specs.Taking.{PlansEntries};
+ghost use Rattle.table_service.specs.{Replying.ShowsPage, Taking.PlansEntries};
 
 use crate::entries::plan_entries;
 use crate::plan::{PageStatus, Problem, RequestPlan};
@@ -19,7 +17,7 @@ use card_forms::{
 };
 use outbox::Outbox;
 use std::alloc::{AllocError, Global};
-use table_hall_views::{faults_page, refused_page};
+use table_people_views::{faults_page, refused_page};
 use table_views::{PageContext, is_latest};
 
 /// Whether a path is that of a page that has forms of commands.

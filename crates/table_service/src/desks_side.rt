@@ -7,8 +7,10 @@ ghost use Rattle.table_service.specs.Steps.{HandsOut, IsKeptUp, has_all};
 use crate::disk::Disk;
 use crate::service::TableService;
 use desk_sockets::{DeskStream, DialogueChange};
+use desk_talks::ConnectionStage;
 use hall_survey::{AskedDesks, Hall, asked_desks, count_desks, lent_stream};
-use kept_mirror::FollowStage;
+use kept_mirror::Mirroring;
+use log_follower::AnswerWorth;
 use outbox::{ItemState, state_of};
 use pages::TcpBrowsers;
 use std::alloc::Global;
@@ -119,11 +121,21 @@ fn keep_asked<R: Net + RandomSource, F: Write>(
     }
 }
 
+/// Whether the desk has answered the last question over its connection with something of use.
+fn has_answered(mirroring: &Mirroring) -> bool {
+    matches!(mirroring.worth(), AnswerWorth::Useful)
+        && matches!(mirroring.stage(), ConnectionStage::Answered { .. })
+}
+
 /// Whether the mirror has all that was in the log of the desk that answered last.
-fn has_all(stage: FollowStage) -> bool
-    ensures { result ≡ has_all stage }
+fn has_all(mirroring: &Mirroring) -> bool
+    ensures { result ≡ has_all mirroring.now }
 {
-    matches!(stage, FollowStage::Answered { last: Some(_) })
+    matches!(mirroring.worth(), AnswerWorth::Useful)
+        && matches!(
+            mirroring.stage(),
+            ConnectionStage::Answered { last: Some(_) }
+        )
 }
 
 /// Whether the item at a place waits; none where there is no such item.
@@ -194,16 +206,16 @@ impl<'a, R: Net + RandomSource + Clock + Drop> DesksSide<'a, R> {
         ensures keeps { IsKeptUp service.old service.new }
         ensures caught_up { self.old.caught_up ≡ true → self.new.caught_up ≡ true }
         ensures catches_up { IfOk result (λ goes_on. goes_on ≡ true
-            → has_all service.new.mirroring.follower.stage ≡ true → self.new.caught_up ≡ true) }
+            → has_all service.new.mirroring ≡ true → self.new.caught_up ≡ true) }
     {
         if service.keep(self.stream, now) == DialogueChange::Broken {
             return Ok(false);
         }
-        let stage = service.mirroring().stage();
-        if let FollowStage::Answered { .. } = stage {
+        let mirroring = service.mirroring();
+        if has_answered(mirroring) {
             self.answered_at = now;
         }
-        self.caught_up = self.caught_up || has_all(stage);
+        self.caught_up = self.caught_up || has_all(mirroring);
         service.look()?;
         self.pass(service, now);
         Ok(true)
@@ -334,7 +346,7 @@ impl<'a, R: Net + RandomSource + Clock + Drop> DesksSide<'a, R> {
             refused: refused(service),
             lengths,
             away,
-            trouble: self.stream.trouble(),
+            trouble: self.stream.wire.key_trouble(),
             of_other_hall: self.asked.desks.of_other_hall(),
             differs: self.asked.desks.differs(self.alloc)?,
         };
@@ -357,7 +369,7 @@ impl<'a, R: Net + RandomSource + Clock + Drop> DesksSide<'a, R> {
             → HandsOut now service.old service.new) }
         ensures caught_up { self.old.caught_up ≡ true → self.new.caught_up ≡ true }
         ensures catches_up { IfOk result (λ goes_on. goes_on ≡ true
-            → has_all service.new.mirroring.follower.stage ≡ true → self.new.caught_up ≡ true) }
+            → has_all service.new.mirroring ≡ true → self.new.caught_up ≡ true) }
     {
         keep_asked(&mut self.asked, now, faults);
         if !self.keep_mirror(service, now)? {

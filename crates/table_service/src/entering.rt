@@ -4,10 +4,8 @@ ghost use Rattle.std.specs.Prelude.{◌≡◌, IfOk, Ok, Some};
 ghost use Rattle.card_forms.specs.Readings.{IsReadAs};
 ghost use Rattle.table_service.specs.Plans.{HoldsCard, PlansCard, PlansCardAs, PlansCardEntry};
 ghost use Rattle.table_service.specs.Plans.{PlansForm, PlansNoted, PlansReadCard, PlansSpelled};
-ghost use Rattle.table_service.specs.Plans.{are_confirmed};
-ghost use Rattle.table_service.specs.Plans.{card_place, cards_place, has_word, is_confirmed};
-ghost use Rattle.table_service.specs.Plans.{is_entered};
-ghost use Rattle.table_service.specs.Taking.{IsFitCard};
+ghost use Rattle.table_service.specs.Plans.{are_confirmed, card_place, cards_place, has_word};
+ghost use Rattle.table_service.specs.{Plans.is_confirmed, Plans.is_entered, Taking.IsFitCard};
 
 use crate::cards::card;
 use crate::checks::{doubts_of, only, unread};

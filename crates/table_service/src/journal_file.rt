@@ -2,8 +2,7 @@
 
 ghost use Rattle.std.specs.Prelude.{◌≡◌, IfOk, false, true};
 ghost use Rattle.table_service.specs.Disks.{CutsBack, HasLines, Keeps, OpensOver, Puts};
-ghost use Rattle.table_service.specs.Openings.{HasBytes, HasNow, IsOverIn, OpensIn};
-ghost use Rattle.table_service.specs.Openings.{journal_bytes};
+ghost use Rattle.table_service.specs.Openings.{HasBytes, HasNow, IsOverIn, OpensIn, journal_bytes};
 
 use crate::disk::{Disk, SystemFile};
 use outbox::{HallName, Journal, JournalFault, read_journal};

@@ -1,9 +1,8 @@
 //! What holds of each answer and of the journal, whatever is asked.
 
 ghost use Rattle.table_service.specs.Laws.{RefusesForeign, SavedIsTheCard, SecuresAll};
-ghost use Rattle.table_service.specs.Laws.{TakesForForms};
+ghost use Rattle.table_service.specs.{Laws.TakesForForms, WorkedTaking.WorksTaking};
 ghost use Rattle.table_service.specs.Runs.{RunsAreOfTheOutbox, TakenStays};
-ghost use Rattle.table_service.specs.WorkedTaking.{WorksTaking};
 
 use outbox::laws::{loses_nothing, saved_is_entered, submits_what_is_kept, told_by_the_log};
 

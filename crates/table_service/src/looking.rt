@@ -15,7 +15,7 @@ use command_lists::{FileLines, answers_to, lines_of_file, texts_in};
 use form_data::{Part, boundary_of, parts};
 use http::{Request, header};
 use std::alloc::{AllocError, Global};
-use table_hall_views::{PreviewedCommand, faults_page, preview_page};
+use table_people_views::{PreviewedCommand, faults_page, preview_page};
 use table_views::PageContext;
 use texts::Answer;
 use wcif::{CumulativeLimits, Edition, Options, SameNames};

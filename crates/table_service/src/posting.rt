@@ -2,8 +2,7 @@
 
 ghost use Rattle.std.specs.Prelude.{◌≡◌, IfOk, codes};
 ghost use Rattle.card_forms.specs.Pairs.{value_of};
-ghost use Rattle.table_service.specs.Lists.{LooksAt};
-ghost use Rattle.table_service.specs.Plans.{page_after};
+ghost use Rattle.table_service.specs.{Lists.LooksAt, Plans.page_after};
 ghost use Rattle.table_service.specs.Sent.{PlansOwn, PlansPost, PlansSent};
 ghost use Rattle.table_service.specs.Requests.{is_post, is_read};
 

@@ -1,15 +1,14 @@
 //! What a card would be answered now.
 
-ghost use Rattle.std.specs.Prelude.{◌≡◌, ◌++◌, ◌<◌, IfOk, IfSome, OnOk, Some, length, not};
-ghost use Rattle.std.specs.Prelude.{All, slice_get};
-ghost use Rattle.std.specs.List.{list_any};
+ghost use Rattle.std.specs.Prelude.{◌≡◌, ◌++◌, ◌<◌, IfOk, IfSome, OnOk, Some, length, not, All};
+ghost use Rattle.std.specs.{Prelude.slice_get, List.list_any};
 ghost use Rattle.commands.specs.Accepted.{are_values, card_values, has_outcome, is_wrong};
 ghost use Rattle.commands.specs.Accepted.{lacks_scramble, refusal, round_by, scramble_of};
 ghost use Rattle.commands.specs.Accepted.{seen_refusal, unfit_card_refusal};
 ghost use Rattle.rounds.specs.Tables.{entrant, fits};
-ghost use Rattle.texts.specs.declared.command.Command.TheVariants as command;
 ghost use Rattle.texts.specs.Spelling.{IsEntered};
 ghost use Rattle.table_service.specs.Checks.{enters, left_at, lacks_at, opened_refusal};
+ghost use Rattle.texts.specs.declared.command.Command.TheVariants as command;
 
 use attempts::{Unit, Value};
 use commands::{Meet, is_wrong, lacks_scramble, settled};

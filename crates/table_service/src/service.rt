@@ -2,8 +2,7 @@
 
 ghost use Rattle.std.specs.Prelude.{◌≡◌, ◌≤◌, ◌∷◌, [], IfOk, length, slice_get};
 ghost use Rattle.std.specs.Option.{option_copied};
-ghost use Rattle.outbox.specs.Items.{taken_back};
-ghost use Rattle.outbox.specs.Outboxes.{with_list};
+ghost use Rattle.outbox.specs.{Items.taken_back, Outboxes.with_list};
 ghost use Rattle.table_service.specs.Services.{StaysKept, TakesAs, TriesAll, is_new};
 ghost use Rattle.wire.specs.Ranges.{IsId};
 

@@ -3,9 +3,7 @@
 ghost use Rattle.std.specs.Prelude.{◌≡◌, IfOk};
 ghost use Rattle.std.specs.Option.{option_map};
 ghost use Rattle.table_service.specs.Pages.{IsPage, draft_of};
-ghost use Rattle.table_service.specs.Plans.{PlansRead};
-ghost use Rattle.table_service.specs.Replying.{ShowsIf};
-ghost use Rattle.table_service.specs.Requests.{query_of};
+ghost use Rattle.table_service.specs.{Plans.PlansRead, Replying.ShowsIf, Requests.query_of};
 
 use crate::plan::{PageReply, PageStatus, Problem, RequestPlan};
 use crate::reading::{Resource, TableView, asked_at};
@@ -16,7 +14,8 @@ use outbox::Outbox;
 use std::alloc::{AllocError, Global};
 use table_entry_views::paper::{scorecards, wall_sheet};
 use table_entry_views::{Draft, history_page};
-use table_hall_views::{import_page, overview, people_page, person_page, rounds_page};
+use table_people_views::{import_page, people_page, person_page};
+use table_round_views::{overview, rounds_page};
 use table_views::PageContext;
 
 /// What a card is filled in with that is asked for.

@@ -4,9 +4,8 @@ ghost use Rattle.std.specs.Prelude.{◌≡◌, ◌++◌, ◌∷◌, ◌<◌, [],
 ghost use Rattle.std.specs.Prelude.{true};
 ghost use Rattle.texts.specs.Spelling.{IsEntered};
 ghost use Rattle.table_service.specs.Taking.{IsFitCard};
-ghost use Rattle.table_service.specs.Undoing.{PlansUndo, PlansUndoCard, PlansUndoIf};
-ghost use Rattle.table_service.specs.Undoing.{back_at, back_of, may_undo, time_for, typed_for};
-ghost use Rattle.table_service.specs.Undoing.{undone_entry};
+ghost use Rattle.table_service.specs.Undoing.{PlansUndo, PlansUndoCard, PlansUndoIf, back_at};
+ghost use Rattle.table_service.specs.Undoing.{back_of, may_undo, time_for, typed_for, undone_entry};
 
 use crate::answering::{id_of, plan_leaving};
 use crate::checks::is_left;

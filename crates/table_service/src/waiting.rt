@@ -14,7 +14,7 @@ use mirror::Mirror;
 use outbox::{ItemState, Outbox, state_of};
 use std::alloc::{AllocError, Global};
 use table_entry_views::Draft;
-use table_hall_views::waiting_page;
+use table_people_views::waiting_page;
 use table_views::PageContext;
 use texts::{RoundId, number_between};
 

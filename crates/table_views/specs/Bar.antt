@@ -3,20 +3,17 @@ use Rattle.std.specs.Prelude.{ℕ, ◌/◌, Bool, true, false, List, [], ◌∷�
 use Rattle.std.specs.Prelude.{flat_map, length, Option, None, Some, nat_le, if◌then◌else◌}
 use Rattle.markup.specs.Pieces.{fill}
 use Rattle.sealed.specs.declared.ends.trouble.CallTrouble.{CallTrouble}
-use Rattle.sealed.specs.declared.ends.trouble.CallTrouble.TheVariants as trouble
-use Rattle.wire.specs.declared.standing.Difference.{Difference}
+use Rattle.wire.specs.declared.{standing.Difference.Difference, values.ClientRefusal.ClientRefusal}
 use Rattle.wire.specs.declared.standing.Difference.TheVariants.{OtherEntry, Shorter}
-use Rattle.wire.specs.declared.values.ClientRefusal.{ClientRefusal}
-use Rattle.wire.specs.declared.values.ClientRefusal.TheVariants as refusal
-use Rattle.table_views.specs.declared.bar.DesksHealth.{DesksHealth}
-use Rattle.table_views.specs.declared.bar.DesksHealth.TheVariants as doing
-use Rattle.table_views.specs.declared.desks.HallStatus.{HallStatus}
+use Rattle.table_views.specs.declared.{bar.DesksHealth.DesksHealth, desks.HallStatus.HallStatus}
 use Rattle.table_views.specs.Counts.{are_away, number_start, number_word}
 use Rattle.table_views.specs.Desks.{is_everywhere, too_few}
 use Rattle.table_views.specs.declared.bar.TheConstants.{AND_MACHINE, AWAY, BAR_END, BAR_START}
 use Rattle.table_views.specs.declared.bar.TheConstants.{LOOK_AT, OTHER_ENTRY, OTHER_HALL, SHORTER}
-use Rattle.table_views.specs.declared.bar.TheConstants.{SILENT}
-use Rattle.table_views.specs.declared.bar.TheConstants.{STOP, UNDECIDED, WELL}
+use Rattle.table_views.specs.declared.bar.TheConstants.{SILENT, STOP, UNDECIDED, WELL}
+use Rattle.sealed.specs.declared.ends.trouble.CallTrouble.TheVariants as trouble
+use Rattle.wire.specs.declared.values.ClientRefusal.TheVariants as refusal
+use Rattle.table_views.specs.declared.bar.DesksHealth.TheVariants as doing
 
 -- ---- how they are doing
 
@@ -28,15 +25,7 @@ too_long (Some milliseconds) = if nat_le 2000 milliseconds then Some millisecond
 -- a desk that does not allow it lets callers without a key look
 abbrev pub refused_key : ClientRefusal → Option CallTrouble
 refused_key refusal.NotAllowed = Some trouble.HasKey
-refused_key refusal.Busy = None
-refused_key refusal.LogFull = None
-refused_key refusal.BallotsSpent = None
-refused_key refusal.NoMemory = None
-refused_key refusal.Down = None
-refused_key refusal.NotThere = None
-refused_key refusal.NoSuchRound = None
-refused_key refusal.Foreign = None
-refused_key refusal.HallDiffers = None
+refused_key _ = None
 
 abbrev pub key_by : Option CallTrouble → Option (ℕ × ClientRefusal) → Option CallTrouble
 key_by (Some wrong) refused = Some wrong
@@ -81,15 +70,10 @@ doing_of desks = locked_or (key_trouble desks) desks
 -- ---- in words
 
 abbrev pub class_of : DesksHealth → List ℕ
-class_of (doing.Locked wrong) = codes "lost"
-class_of (doing.OtherHall desk) = codes "lost"
-class_of (doing.Differs difference) = codes "lost"
-class_of doing.Few = codes "lost"
-class_of (doing.Silent milliseconds) = codes "lost"
-class_of (doing.Undecided milliseconds) = codes "lost"
 class_of doing.Away = codes "away"
 class_of doing.Asked = codes "away"
 class_of doing.Well = codes "well"
+class_of _ = codes "lost"
 
 abbrev pub key_words : CallTrouble → List ℕ
 key_words trouble.HasKey =

@@ -15,8 +15,7 @@ holding desks position = count_by (holds position) desks.lengths.items
 -- all desks of the hall are known to have this many entries
 abbrev pub is_everywhere : HallStatus → ℕ → Bool
 is_everywhere desks position =
-    nat_lt 0 (length desks.lengths.items)
-    && holding desks position == length desks.lengths.items
+    nat_lt 0 (length desks.lengths.items) && holding desks position == length desks.lengths.items
 
 -- no majority of the desks answers
 abbrev pub too_few : HallStatus → Bool

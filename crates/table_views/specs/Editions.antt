@@ -2,8 +2,7 @@
 use Rattle.std.specs.Prelude.{ℕ, Bool, nat_le, List, [], ◌∷◌, ◌++◌}
 use Rattle.commands.specs.Accepted.{edition_in}
 use Rattle.texts.specs.declared.command.Command.{Command}
-use Rattle.markup.specs.board_page.Escaped.{escaped}
-use Rattle.markup.specs.Pieces.{fill}
+use Rattle.markup.specs.{board_page.Escaped.escaped, Pieces.fill}
 use Rattle.table_views.specs.Hidden.{hidden}
 use Rattle.table_views.specs.declared.editions.TheConstants.{EDITION_REST, EDITION_START}
 

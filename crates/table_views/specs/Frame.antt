@@ -1,9 +1,7 @@
 -- The frame of every page (the project's own).
 use Rattle.std.specs.Prelude.{ℕ, Bool, List, [], ◌∷◌, ◌++◌, codes, if◌then◌else◌, length}
-use Rattle.markup.specs.board_page.Escaped.{escaped}
-use Rattle.markup.specs.Pieces.{fill}
-use Rattle.table_views.specs.declared.around.PageContext.{PageContext}
-use Rattle.table_views.specs.Bar.{bar}
+use Rattle.markup.specs.{board_page.Escaped.escaped, Pieces.fill}
+use Rattle.table_views.specs.{declared.around.PageContext.PageContext, Bar.bar}
 use Rattle.table_views.specs.declared.frame.TheConstants.{BOTTOM, HEAD, LINKS, REFRESH}
 
 -- where what was sent waits, the page asks for itself again after a second, without scripts

@@ -12,3 +12,5 @@ pub mod Editions
 pub mod Recent
 pub mod Looks
 pub mod Logs
+pub mod Forms
+pub mod Lines

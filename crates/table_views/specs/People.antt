@@ -1,7 +1,6 @@
 -- Competitors (the project's own).
 use Rattle.std.specs.Prelude.{ℕ, List, [], Option, unwrap_or}
-use Rattle.texts.specs.declared.command.Command.{Command}
-use Rattle.texts.specs.Fields.{number_between}
+use Rattle.texts.specs.{declared.command.Command.Command, Fields.number_between}
 use Rattle.scorecard.specs.Spelling.{trimmed}
 use Rattle.commands.specs.Accepted.{name_of}
 

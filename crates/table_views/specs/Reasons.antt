@@ -1,26 +1,21 @@
 -- Why something waits, in words (the project's own).
 use Rattle.std.specs.Prelude.{ℕ, ◌==◌, if◌then◌else◌, List, codes, Option, None, Some}
 use Rattle.wire.specs.declared.values.ClientRefusal.{ClientRefusal}
-use Rattle.wire.specs.declared.values.ClientRefusal.TheVariants as refusal
-use Rattle.table_views.specs.declared.bar.DesksHealth.{DesksHealth}
-use Rattle.table_views.specs.declared.bar.DesksHealth.TheVariants as doing
-use Rattle.table_views.specs.declared.desks.HallStatus.{HallStatus}
+use Rattle.table_views.specs.declared.{bar.DesksHealth.DesksHealth, desks.HallStatus.HallStatus}
 use Rattle.table_views.specs.Bar.{doing_of}
+use Rattle.wire.specs.declared.values.ClientRefusal.TheVariants as refusal
+use Rattle.table_views.specs.declared.bar.DesksHealth.TheVariants as doing
 
 -- why a desk did not take what was submitted
 abbrev pub refusal_words : ClientRefusal → List ℕ
 refusal_words refusal.Busy = codes ": the desk is full, it is sent again"
 refusal_words refusal.LogFull = codes ": the log is full, the desks take no more"
-refusal_words refusal.BallotsSpent = codes ": the desk is down, it is sent to another one"
-refusal_words refusal.NoMemory = codes ": the desk is down, it is sent to another one"
-refusal_words refusal.Down = codes ": the desk is down, it is sent to another one"
-refusal_words refusal.NotThere = codes ": the desk is down, it is sent to another one"
-refusal_words refusal.NoSuchRound = codes ": the desk is down, it is sent to another one"
 refusal_words refusal.Foreign = codes ": the desk is of another hall"
 refusal_words refusal.HallDiffers =
     codes ": the machines have other commands than one another, and take none"
 refusal_words refusal.NotAllowed =
     codes ": the desk does not take it, since this table has no key, or another one"
+refusal_words _ = codes ": the desk is down, it is sent to another one"
 
 -- why the desk did not take the item of an id, if it is the one that it did not take
 abbrev pub refusal_if : Option (ℕ × ClientRefusal) → ℕ → Option ClientRefusal
@@ -37,9 +32,7 @@ delay_words doing.Few = codes ": less than a majority of the machines answers"
 delay_words (doing.Silent milliseconds) =
     codes ": the machine that this table asks does not answer"
 delay_words (doing.Undecided milliseconds) = codes ": the machines have not decided it yet"
-delay_words doing.Away = codes ""
-delay_words doing.Asked = codes ""
-delay_words doing.Well = codes ""
+delay_words _ = codes ""
 
 abbrev pub why_by : Option ClientRefusal → HallStatus → List ℕ
 why_by (Some why) desks = refusal_words why

@@ -1,35 +1,23 @@
 -- The cards and the commands of late, and what became of each (the project's own).
-use Rattle.std.specs.Prelude.{ℕ, zero, suc, ◌+◌, ◌-◌, ◌/◌, ◌==◌, ◌&&◌, List, [], ◌∷◌, ◌++◌}
-use Rattle.std.specs.Prelude.{Bool, true, false, codes, decimal, flat_map, length}
-use Rattle.std.specs.Prelude.{Option, None, Some, is_some, if◌then◌else◌}
-use Rattle.attempts.specs.Texts.{value_text}
-use Rattle.attempts.specs.declared.Unit.{Unit as Measure}
-use Rattle.attempts.specs.declared.Value.{Value}
+use Rattle.std.specs.Prelude.{ℕ, zero, suc, ◌+◌, ◌-◌, ◌/◌, ◌==◌, ◌&&◌, List, [], ◌∷◌, ◌++◌, Bool}
+use Rattle.std.specs.Prelude.{true, false, codes, decimal, flat_map, length, Option, None, Some}
+use Rattle.std.specs.Prelude.{is_some, if◌then◌else◌}
+use Rattle.attempts.specs.{Texts.value_text, declared.Unit.Unit as Measure, declared.Value.Value}
 use Rattle.formats.specs.Events.{unit_of}
-use Rattle.markup.specs.board_page.Escaped.{escaped}
-use Rattle.markup.specs.Pieces.{fill}
+use Rattle.markup.specs.{board_page.Escaped.escaped, Pieces.fill}
 use Rattle.card_forms.specs.Entries.{card_in}
 use Rattle.outbox.specs.declared.state.ItemState.{ItemState}
-use Rattle.outbox.specs.declared.state.ItemState.TheVariants as state
 use Rattle.round_words.specs.Words.{round_name}
-use Rattle.texts.specs.Fields.{enters_later}
-use Rattle.texts.specs.Spelling.{was_text}
-use Rattle.texts.specs.declared.command.CardEntry.{CardEntry}
-use Rattle.texts.specs.declared.command.Command.{Command}
-use Rattle.texts.specs.meanings.Meanings.{meaning_of}
-use Rattle.table_views.specs.declared.around.PageContext.{PageContext}
-use Rattle.table_views.specs.declared.around.Recent.{Recent}
-use Rattle.table_views.specs.declared.desks.HallStatus.{HallStatus}
+use Rattle.texts.specs.{Fields.enters_later, Spelling.was_text, meanings.Meanings.meaning_of}
+use Rattle.texts.specs.declared.command.{CardEntry.CardEntry, Command.Command}
+use Rattle.table_views.specs.declared.around.{PageContext.PageContext, Recent.Recent}
+use Rattle.table_views.specs.{declared.desks.HallStatus.HallStatus, Desks.is_everywhere}
 use Rattle.table_views.specs.Counts.{are_away, number_word}
-use Rattle.table_views.specs.Desks.{is_everywhere}
-use Rattle.table_views.specs.Hidden.{hidden}
-use Rattle.table_views.specs.Logs.{accepted_in}
-use Rattle.table_views.specs.People.{name_in}
-use Rattle.table_views.specs.Reasons.{why_words}
-use Rattle.table_views.specs.Standing.{standing}
-use Rattle.table_views.specs.Typed.{typed_from}
+use Rattle.table_views.specs.{Hidden.hidden, Logs.accepted_in, People.name_in, Reasons.why_words}
+use Rattle.table_views.specs.{Standing.standing, Typed.typed_from}
 use Rattle.table_views.specs.declared.recent.TheConstants.{BY, COMMAND, COMPETITOR, EVERYWHERE}
 use Rattle.table_views.specs.declared.recent.TheConstants.{LINE_START, SAVED_BUT, UNDO, WAITS}
+use Rattle.outbox.specs.declared.state.ItemState.TheVariants as state
 
 -- ---- what was sent
 
@@ -152,11 +140,8 @@ leave_form token id =
 -- ---- what a scoretaker may take back
 
 abbrev pub is_saved : ItemState → Bool
-is_saved state.Waits = false
 is_saved (state.Saved position) = true
-is_saved (state.Changed position) = false
-is_saved (state.Refused position why) = false
-is_saved (state.OtherText position) = false
+is_saved _ = false
 
 abbrev pub is_saved_card : Recent → Bool
 is_saved_card recent = is_saved recent.state && is_some (card_in recent.item.now.entry.text)

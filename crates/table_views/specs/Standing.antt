@@ -3,8 +3,7 @@ use Rattle.std.specs.Prelude.{ℕ, List, [], Option, None, Some, option_map, unw
 use Rattle.attempts.specs.declared.Value.{Value}
 use Rattle.commands.specs.Accepted.{round_by}
 use Rattle.rounds.specs.Tables.{Table, entrant}
-use Rattle.texts.specs.declared.command.Command.{Command}
-use Rattle.texts.specs.declared.command.RoundId.{RoundId}
+use Rattle.texts.specs.declared.command.{Command.Command, RoundId.RoundId}
 
 -- the values that count of a number in a round; none where it is not in the round
 abbrev pub values_of : Table → ℕ → List Value

@@ -1,8 +1,6 @@
 -- A card as it was typed (the project's own).
-use Rattle.std.specs.Prelude.{ℕ, suc, List, [], ◌∷◌, ◌++◌, codes}
-use Rattle.std.specs.Prelude.{Option, None, Some}
-use Rattle.attempts.specs.declared.Unit.{Unit as Measure}
-use Rattle.attempts.specs.declared.Value.{Value}
+use Rattle.std.specs.Prelude.{ℕ, suc, List, [], ◌∷◌, ◌++◌, codes, Option, None, Some}
+use Rattle.attempts.specs.declared.{Unit.Unit as Measure, Value.Value}
 use Rattle.card_forms.specs.Readings.{shown_at}
 use Rattle.scorecard.specs.Typed.{entered_typed}
 use Rattle.texts.specs.declared.command.Entered.{Entered}

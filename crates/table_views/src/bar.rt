@@ -201,6 +201,7 @@ fn push_others(out: &mut Vec<u8>, desks: &[u8]) -> Result<(), NoMemory>
 const LOOK_AT: &[u8] = b" Look after machine $";
 
 /// Adds that somebody has to look after these machines.
+#[tactic(auto, unfolding(crate::specs::Bar::look_at))]
 fn push_look_at(out: &mut Vec<u8>, desk: u8, others: &[u8]) -> Result<(), NoMemory>
     ensures { OnOk result (out.new.items ≡ out.old.items ++ look_at desk others.now) }
 {
@@ -321,6 +322,7 @@ fn push_bar_end(out: &mut Vec<u8>, position: u32) -> Result<(), NoMemory>
 }
 
 /// Adds the bar of desks that are doing so.
+#[tactic(auto, unfolding(crate::specs::Bar::bar_of))]
 fn push_bar_of(
     out: &mut Vec<u8>,
     desks: &HallStatus,

@@ -41,6 +41,7 @@ fn push_edition_rest(out: &mut Vec<u8>, back: &[u8]) -> Result<(), NoMemory>
 }
 
 /// Adds the form that moves to edition 4. After it the browser goes to the path `back`.
+#[tactic(auto, unfolding(crate::specs::Editions::edition_form))]
 pub fn push_edition_form(
     out: &mut Vec<u8>,
     token: &[u8],

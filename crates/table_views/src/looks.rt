@@ -996,6 +996,7 @@ setInterval(look, 500);
 ";
 
 /// The style of all pages.
+#[tactic(auto, unfolding(crate::specs::Looks::style))]
 pub fn style() -> &'static str
     ensures { result.now ≡ style }
 {
@@ -1003,6 +1004,7 @@ pub fn style() -> &'static str
 }
 
 /// The script of all pages. Each page works without it.
+#[tactic(auto, unfolding(crate::specs::Looks::script))]
 pub fn script() -> &'static str
     ensures { result.now ≡ script }
 {

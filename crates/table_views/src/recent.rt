@@ -3,14 +3,12 @@
 ghost use Rattle.std.specs.Prelude.{◌≡◌, ◌++◌, IfOk, OnOk, flat_map};
 ghost use Rattle.std.specs.Option.{option_copied};
 ghost use Rattle.texts.specs.Fields.{enters_later};
-ghost use Rattle.table_views.specs.Recent.{again_form, again_of, by_words, card_line};
-ghost use Rattle.table_views.specs.Recent.{card_link, class_of, command_line, competitor};
-ghost use Rattle.table_views.specs.Recent.{forms_of, is_saved_card, item_line};
-ghost use Rattle.table_views.specs.Recent.{leave_form, line_of, line_start, newest_saved};
-ghost use Rattle.table_views.specs.Recent.{recent_line, recent_section, saved_but};
-ghost use Rattle.table_views.specs.Recent.{saved_everywhere, saved_words, standing_words};
-ghost use Rattle.table_views.specs.Recent.{stands_words, state_words, undo_form, undo_of};
-ghost use Rattle.table_views.specs.Recent.{value_words, waits_words};
+ghost use Rattle.table_views.specs.Recent.{again_form, again_of, by_words, card_line, card_link};
+ghost use Rattle.table_views.specs.Recent.{class_of, is_saved_card, item_line, leave_form, line_of};
+ghost use Rattle.table_views.specs.Recent.{command_line, saved_but, saved_everywhere, saved_words};
+ghost use Rattle.table_views.specs.Recent.{competitor, forms_of, undo_of, value_words, waits_words};
+ghost use Rattle.table_views.specs.Recent.{line_start, newest_saved, recent_line, recent_section};
+ghost use Rattle.table_views.specs.Recent.{standing_words, stands_words, state_words, undo_form};
 
 use crate::around::{PageContext, Recent};
 use crate::counts::{are_away, number_word};
@@ -263,7 +261,7 @@ fn push_again(out: &mut Vec<u8>, token: &[u8], id: u64, values: &[Value]) -> Res
 
 /// Whether something is entered for each attempt after those that count, this many: so a card over
 /// them has a spelling.
-fn enters_later(stands: usize, now: &[Option<Entered>]) -> bool
+pub fn enters_later(stands: usize, now: &[Option<Entered>]) -> bool
     ensures { result ≡ enters_later stands now.now }
 {
     now.iter().skip(stands).all(|outcome| outcome.is_some())

@@ -2,42 +2,28 @@
 use Rattle.std.proofs.Common.{◌≡◌, ℕ, ◌<◌, Bool, true, false, ◌&&◌, ◌==◌, not, List, [], ◌∷◌, ◌++◌}
 use Rattle.std.proofs.Common.{map, All, get_or, codes, decimal, bytes_eq, Option, Some, None, refl}
 use Rattle.std.proofs.Common.{sym, ap, ◌∙◌, arith, eqb-true}
-use Rattle.std.specs.Char.{is_ascii_digit}
-use Rattle.std.specs.List.{list_all, join_with_byte}
+use Rattle.std.specs.{Char.is_ascii_digit, List.list_all, List.join_with_byte, Prelude.IfSome}
 use Rattle.std.proofs.lemmas.Bool.{false≢true}
-use Rattle.std.proofs.lemmas.Bool.Decides.{nat_tests}
+use Rattle.std.proofs.lemmas.{Bool.Decides.nat_tests, List.Folds.list_all-append}
 use Rattle.std.proofs.lemmas.List.Elements.{All-head, All-map, All-tail}
-use Rattle.std.proofs.lemmas.List.Folds.{list_all-append}
-use Rattle.cube.specs.declared.moves.Side.{Side}
-use Rattle.cube.specs.declared.moves.Side.TheVariants.{U}
-use Rattle.cube.specs.declared.moves.Axis.{Axis}
-use Rattle.cube.specs.declared.moves.Axis.TheVariants.{X}
-use Rattle.cube.specs.declared.moves.Kind.{Kind}
+use Rattle.cube.specs.declared.moves.{Side.Side, Side.TheVariants.U, Kind.Kind, Move.Move}
+use Rattle.cube.specs.declared.moves.{Axis.Axis, Quarter.Quarter, Quarter.TheVariants.Clockwise}
+use Rattle.cube.specs.{declared.moves.Axis.TheVariants.X, notation.Notation.spelling as moves_text}
 use Rattle.cube.specs.declared.moves.Kind.TheVariants.{Face, Block, Turn}
-use Rattle.cube.specs.declared.moves.Quarter.{Quarter}
-use Rattle.cube.specs.declared.moves.Quarter.TheVariants.{Clockwise}
-use Rattle.cube.specs.declared.moves.Move.{Move}
 use Rattle.cube.specs.notation.Tokens.{side_letter, axis_letter, stem, mark, token}
-use Rattle.cube.specs.notation.Notation.{spelling as moves_text}
-use Rattle.formats.specs.declared.advance.Advance.{Advance}
+use Rattle.formats.specs.{declared.advance.Advance.Advance, Events.event_name, Events.format_name}
 use Rattle.formats.specs.declared.advance.Advance.TheVariants.{Final, Top, Percent}
-use Rattle.formats.specs.declared.events.Event.{Event}
-use Rattle.formats.specs.declared.events.Event.TheVariants.{Cube3}
-use Rattle.formats.specs.declared.events.Format.{Format}
-use Rattle.formats.specs.declared.events.Format.TheVariants.{Ao5}
-use Rattle.formats.specs.Events.{event_name, format_name}
+use Rattle.formats.specs.declared.events.Event.{Event, TheVariants.Cube3}
+use Rattle.formats.specs.declared.events.Format.{Format, TheVariants.Ao5}
 use Rattle.attempts.specs.declared.Value.{Value}
-use Rattle.attempts.specs.declared.Value.TheVariants as counted
-use Rattle.texts.specs.declared.command.Entered.{Entered}
+use Rattle.texts.specs.{declared.command.Entered.Entered, Names.is_name_byte}
 use Rattle.texts.specs.declared.command.Entered.TheVariants.{Time, Solution, Multi, Dnf, Dns}
-use Rattle.texts.specs.Names.{is_name_byte}
 use Rattle.texts.specs.Spelling.{IsCounted, IsEntered, IsFitAdvance, IsFitCutoff, IsFitLimit}
 use Rattle.texts.specs.Spelling.{advance_text, counted_text, cutoff_text, entered_text, limit_text}
 use Rattle.texts.specs.Spelling.{now_text, stays_or_text, was_text}
-use Rattle.std.specs.Prelude.{IfSome}
 use Rattle.texts.proofs.Cuts.{and-true, lacks}
-use Rattle.texts.proofs.FieldSpellings.{decimal_digits}
-use Rattle.texts.proofs.Spelled.{bytes_eq-equal}
+use Rattle.texts.proofs.{FieldSpellings.decimal_digits, Spelled.bytes_eq-equal}
+use Rattle.attempts.specs.declared.Value.TheVariants as counted
 
 -- ---- tests of bytes
 

@@ -1,30 +1,24 @@
 -- What is in a scorecard is read from its one spelling.
-use Rattle.std.proofs.Common.{◌≡◌, ℕ, zero, suc, ◌*◌, ◌≤◌, Bool, true, false, cond, nat_le, not}
-use Rattle.std.proofs.Common.{◌==◌, List, []}
-use Rattle.std.proofs.Common.{◌∷◌, length, map, All, get_or, codes, decimal, bytes_eq, Option, Some}
-use Rattle.std.proofs.Common.{None, refl, sym, ap, ◌∙◌, subst, arith, length-append}
-use Rattle.std.specs.Prelude.{IfSome}
-use Rattle.std.specs.List.{join_with_byte}
+use Rattle.std.proofs.Common.{◌≡◌, nat_le, length, get_or, decimal, bytes_eq, Option, length-append}
+use Rattle.std.proofs.Common.{ℕ, suc, ◌*◌, ◌≤◌, not, [], ◌∷◌, map, All, None, refl, sym, ap, ◌∙◌}
+use Rattle.std.proofs.Common.{zero, Bool, true, false, cond, ◌==◌, List, codes, Some, subst, arith}
+use Rattle.std.specs.{Prelude.IfSome, List.join_with_byte}
 use Rattle.std.specs.Option.{option_map, option_and_then}
-use Rattle.std.proofs.lemmas.Bool.Decides.{nat_tests}
-use Rattle.std.proofs.lemmas.Fmt.{length-decimal-le}
-use Rattle.std.proofs.lemmas.List.{length-map}
+use Rattle.std.proofs.lemmas.{Bool.Decides.nat_tests, Fmt.length-decimal-le, List.length-map}
 use Rattle.std.proofs.lemmas.List.Elements.{All-head, All-map, All-nil, All-tail}
 use Rattle.attempts.specs.declared.Value.{Value}
 use Rattle.attempts.specs.declared.Value.TheVariants.{Number, Dnf, Dns}
-use Rattle.texts.specs.declared.command.Entered.{Entered}
-use Rattle.texts.specs.declared.command.Entered.TheVariants as entered
+use Rattle.texts.{specs.declared.command.Entered.Entered, proofs.Bytes.stays_inner}
 use Rattle.texts.specs.Spelling.{AreCounted, AreToStand, IsCounted, IsEntered, IsWithin}
 use Rattle.texts.specs.Spelling.{counted_text, entered_text, now_text, stays_or_text, was_text}
-use Rattle.texts.specs.Fields.{all_of, at_most_5, counted_of, entered_of, enters_later}
-use Rattle.texts.specs.Fields.{now_of, number_between, over, stays_or_of, was_of}
+use Rattle.texts.specs.Fields.{all_of, at_most_5, counted_of, entered_of, enters_later, now_of}
+use Rattle.texts.specs.Fields.{number_between, over, stays_or_of, was_of}
 use Rattle.texts.proofs.Bytes.{counts_counted, is_counted, is_inner, joined_pass, no_dash}
-use Rattle.texts.proofs.Bytes.{passes_lack, stays_inner}
-use Rattle.texts.proofs.Cuts.{lacks}
+use Rattle.texts.proofs.{Bytes.passes_lack, Cuts.lacks, OutcomeSpellings.entered_spelled}
 use Rattle.texts.proofs.FieldSpellings.{decimal_other, number_spelled}
-use Rattle.texts.proofs.OutcomeSpellings.{entered_spelled}
 use Rattle.texts.proofs.Spelled.{IsSpelled, bytes_eq-equal, chosen}
 use Rattle.texts.proofs.Splits.{joined-found, joined-only, not_too_many, parts}
+use Rattle.texts.specs.declared.command.Entered.TheVariants as entered
 
 -- ---- lists with a byte between, or `-` for none
 

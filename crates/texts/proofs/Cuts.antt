@@ -4,11 +4,9 @@ use Rattle.std.proofs.Common.{◌++◌, length, take, get_or, position, Option, 
 use Rattle.std.proofs.Common.{ap, ◌∙◌, arith, rules, take-append-drop, drop-cons, add-one}
 use Rattle.std.specs.List.{list_all, prefix_len, position_or_len}
 use Rattle.std.proofs.Math.Seq.{take-append_seam, drop-append-add}
-use Rattle.std.proofs.lemmas.List.Folds.{prefix_len-append}
-use Rattle.std.proofs.lemmas.List.Quantifiers.{position-Some}
-use Rattle.std.proofs.lemmas.List.{length-append, append-nil}
+use Rattle.std.proofs.lemmas.List.{Folds.prefix_len-append, Quantifiers.position-Some}
+use Rattle.std.proofs.lemmas.{List.length-append, List.append-nil, Bool.Decides.nat_tests}
 use Rattle.std.proofs.lemmas.Bool.{false≢true}
-use Rattle.std.proofs.lemmas.Bool.Decides.{nat_tests}
 use Rattle.texts.specs.Fields.{cut_at, cut}
 
 -- what is left, with the byte in front

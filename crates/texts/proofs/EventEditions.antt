@@ -1,17 +1,12 @@
 -- Which editions spell a command, by the edition of its event: for proofs of single commands.
 use Rattle.std.proofs.Common.{◌≡◌, ◌≤◌, ◌&&◌, ℕ, true, None, refl, arith}
-use Rattle.std.specs.Prelude.{max, nat_le}
-use Rattle.std.proofs.lemmas.Bool.Decides.{nat_tests}
-use Rattle.formats.specs.declared.events.Event.{Event}
-use Rattle.formats.specs.declared.events.Event.TheVariants.{Cube3}
+use Rattle.std.{specs.Prelude.max, specs.Prelude.nat_le, proofs.lemmas.Bool.Decides.nat_tests}
+use Rattle.formats.specs.declared.events.Event.{Event, TheVariants.Cube3}
 use Rattle.formats.specs.Events.{event_edition}
 use Rattle.texts.specs.declared.command.Command.TheVariants.{Open, Enter}
+use Rattle.texts.specs.declared.command.{RoundId.RoundId, Settings.Settings}
+use Rattle.texts.specs.{Editions.is_spelled_in, Reading.told, Table.rows}
 use Rattle.texts.specs.declared.command.Entered.TheVariants as entered
-use Rattle.texts.specs.declared.command.RoundId.{RoundId}
-use Rattle.texts.specs.declared.command.Settings.{Settings}
-use Rattle.texts.specs.Editions.{is_spelled_in}
-use Rattle.texts.specs.Reading.{told}
-use Rattle.texts.specs.Table.{rows}
 
 -- an event is of edition 1 or a later one
 pub event_later : (e : Event) → max 1 (event_edition e) ≡ event_edition e

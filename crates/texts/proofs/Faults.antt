@@ -2,23 +2,15 @@
 use Rattle.std.proofs.Common.{◌≡◌, ◌↔◌, ℕ, ◌+◌, ◌<◌, ◌≤◌, ◌⊎◌, inl, inr, Bool, true, false, ◌||◌}
 use Rattle.std.proofs.Common.{cond, nat_lt, List, [], ◌∷◌, length, bytes_eq, find, Option, Some}
 use Rattle.std.proofs.Common.{None, Result, Ok, Err, refl, sym, ◌∙◌, subst, arith}
-use Rattle.std.specs.List.{list_any}
-use Rattle.std.specs.Option.{ok_or}
+use Rattle.std.{specs.List.list_any, specs.Option.ok_or, proofs.lemmas.Bool.Decides.nat_tests}
 use Rattle.std.proofs.lemmas.Bool.{false≢true}
-use Rattle.std.proofs.lemmas.Bool.Decides.{nat_tests}
-use Rattle.texts.specs.declared.command.Command.{Command}
-use Rattle.texts.specs.declared.command.RemarkedCommand.{RemarkedCommand}
-use Rattle.texts.specs.declared.reading.CommandFault.{CommandFault}
-use Rattle.texts.specs.declared.reading.CommandFault.TheVariants as fault
-use Rattle.texts.specs.declared.value.FieldValue.{FieldValue}
-use Rattle.texts.specs.Fields.{cut}
-use Rattle.texts.specs.Parts.{made_of}
-use Rattle.texts.specs.Names.{is_remark}
+use Rattle.texts.specs.declared.command.{Command.Command, RemarkedCommand.RemarkedCommand}
+use Rattle.texts.specs.declared.{reading.CommandFault.CommandFault, value.FieldValue.FieldValue}
+use Rattle.texts.specs.{Fields.cut, Parts.made_of, Names.is_remark, Table.TheRow, Table.is_word}
 use Rattle.texts.specs.Reading.{◌>>=◌, Gives, TakesMemory, before_remark, by_row, command_of, told}
-use Rattle.texts.specs.Reading.{values_of, with_remark}
-use Rattle.texts.specs.Table.{TheRow, is_word, row_named, rows}
-use Rattle.texts.proofs.Memory.{IsFrom, later, values_from}
-use Rattle.texts.proofs.Words.{made_row}
+use Rattle.texts.specs.{Reading.values_of, Reading.with_remark, Table.row_named, Table.rows}
+use Rattle.texts.proofs.{Memory.IsFrom, Memory.later, Memory.values_from, Words.made_row}
+use Rattle.texts.specs.declared.reading.CommandFault.TheVariants as fault
 
 -- what is read of a remark: a command with it, or a field at fault
 remark_from : (index : ℕ) (remark : Option (List ℕ)) (c : Command)

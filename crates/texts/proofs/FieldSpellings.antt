@@ -3,28 +3,19 @@ use Rattle.std.proofs.Common.{◌≡◌, ◌↔◌, ℕ, ◌+◌, ◌<◌, ◌�
 use Rattle.std.proofs.Common.{cond, nat_le, IsTrue, List, [], ◌∷◌, ◌++◌, length, take, drop, codes}
 use Rattle.std.proofs.Common.{decimal, bytes_eq, Option, Some, None, refl, sym, ap, ◌∙◌, subst}
 use Rattle.std.proofs.Common.{arith, append_assoc, eqb-true, take-append-drop, length-append}
-use Rattle.std.specs.Char.{is_ascii_digit}
-use Rattle.std.specs.List.{list_all}
-use Rattle.std.specs.Option.{option_map, option_and_then}
+use Rattle.std.specs.{Char.is_ascii_digit, List.list_all, Option.option_map, Option.option_and_then}
 use Rattle.std.proofs.lemmas.Bool.{false≢true}
 use Rattle.std.proofs.lemmas.Bool.Decides.{nat_tests}
 use Rattle.std.proofs.lemmas.Fmt.{digits_decimal, length-decimal-le, decimal_nonempty}
-use Rattle.formats.specs.declared.events.Event.{Event}
-use Rattle.formats.specs.declared.events.Event.TheVariants.{Cube3, Cube2, Cube4, Cube5, Cube6}
-use Rattle.formats.specs.declared.events.Event.TheVariants.{Cube7, Blind3, FewestMoves, OneHanded}
-use Rattle.formats.specs.declared.events.Event.TheVariants.{Clock, Megaminx, Pyraminx, Skewb}
-use Rattle.formats.specs.declared.events.Event.TheVariants.{Square1, Blind4, Blind5, MultiBlind}
-use Rattle.formats.specs.declared.events.Format.{Format}
-use Rattle.formats.specs.declared.events.Format.TheVariants.{Ao5, Mo3, Bo1, Bo2, Bo3}
+use Rattle.formats.specs.declared.events.Event.{Event, TheVariants.Cube3}
+use Rattle.formats.specs.declared.events.Format.{Format, TheVariants.Ao5}
 use Rattle.formats.specs.Events.{all_events, event_name, event_of_name, formats, format_name}
-use Rattle.formats.specs.Events.{format_named}
-use Rattle.formats.specs.declared.advance.Advance.{Advance}
+use Rattle.formats.specs.{Events.format_named, declared.advance.Advance.Advance}
 use Rattle.formats.specs.declared.advance.Advance.TheVariants.{Final, Top, Percent}
-use Rattle.texts.specs.Numerals.{digits_value, within}
+use Rattle.texts.specs.{Numerals.digits_value, Numerals.within, Names.is_name_in, Names.is_name}
 use Rattle.texts.specs.Names.{has_single_spaces, is_name_byte, is_early_name, is_clear_name}
-use Rattle.texts.specs.Names.{is_name_in, is_name}
-use Rattle.texts.specs.Spelling.{IsWithin, IsFitCutoff, IsFitLimit, IsFitAdvance}
-use Rattle.texts.specs.Spelling.{cutoff_text, limit_text, advance_text}
+use Rattle.texts.specs.Spelling.{IsWithin, IsFitCutoff, IsFitLimit, IsFitAdvance, cutoff_text}
+use Rattle.texts.specs.Spelling.{limit_text, advance_text}
 use Rattle.texts.specs.Fields.{number_between, name_of, new_name_of, cutoff_of, limit_of}
 use Rattle.texts.specs.Fields.{advance_of, cut, pair_with, second_number, two_numbers}
 use Rattle.texts.proofs.Numerals.{own, number_between-decimal}
@@ -170,60 +161,15 @@ event_spelled =
   where
     found : (x : Event) → Unit {0} → event_of_name (event_name x) ≡ Some x
     found Cube3 fits = refl
-    found Cube2 fits = refl
-    found Cube4 fits = refl
-    found Cube5 fits = refl
-    found Cube6 fits = refl
-    found Cube7 fits = refl
-    found Blind3 fits = refl
-    found FewestMoves fits = refl
-    found OneHanded fits = refl
-    found Clock fits = refl
-    found Megaminx fits = refl
-    found Pyraminx fits = refl
-    found Skewb fits = refl
-    found Square1 fits = refl
-    found Blind4 fits = refl
-    found Blind5 fits = refl
-    found MultiBlind fits = refl
+    found _ fits = refl
 
 pub event_short : (x : Event) → length (event_name x) ≤ 80
 event_short Cube3 = omega arith
-event_short Cube2 = omega arith
-event_short Cube4 = omega arith
-event_short Cube5 = omega arith
-event_short Cube6 = omega arith
-event_short Cube7 = omega arith
-event_short Blind3 = omega arith
-event_short FewestMoves = omega arith
-event_short OneHanded = omega arith
-event_short Clock = omega arith
-event_short Megaminx = omega arith
-event_short Pyraminx = omega arith
-event_short Skewb = omega arith
-event_short Square1 = omega arith
-event_short Blind4 = omega arith
-event_short Blind5 = omega arith
-event_short MultiBlind = omega arith
+event_short _ = omega arith
 
 pub event_no_space : (x : Event) → lacks 32 (event_name x) ≡ true
 event_no_space Cube3 = refl
-event_no_space Cube2 = refl
-event_no_space Cube4 = refl
-event_no_space Cube5 = refl
-event_no_space Cube6 = refl
-event_no_space Cube7 = refl
-event_no_space Blind3 = refl
-event_no_space FewestMoves = refl
-event_no_space OneHanded = refl
-event_no_space Clock = refl
-event_no_space Megaminx = refl
-event_no_space Pyraminx = refl
-event_no_space Skewb = refl
-event_no_space Square1 = refl
-event_no_space Blind4 = refl
-event_no_space Blind5 = refl
-event_no_space MultiBlind = refl
+event_no_space _ = refl
 
 pub format_spelled : IsSpelled format_named format_name (λ x. Unit {0})
 unfolding format_named
@@ -232,24 +178,15 @@ format_spelled =
   where
     found : (x : Format) → Unit {0} → format_named (format_name x) ≡ Some x
     found Ao5 fits = refl
-    found Mo3 fits = refl
-    found Bo1 fits = refl
-    found Bo2 fits = refl
-    found Bo3 fits = refl
+    found _ fits = refl
 
 pub format_short : (x : Format) → length (format_name x) ≤ 80
 format_short Ao5 = omega arith
-format_short Mo3 = omega arith
-format_short Bo1 = omega arith
-format_short Bo2 = omega arith
-format_short Bo3 = omega arith
+format_short _ = omega arith
 
 pub format_no_space : (x : Format) → lacks 32 (format_name x) ≡ true
 format_no_space Ao5 = refl
-format_no_space Mo3 = refl
-format_no_space Bo1 = refl
-format_no_space Bo2 = refl
-format_no_space Bo3 = refl
+format_no_space _ = refl
 
 -- Two numbers with a colon between.
 

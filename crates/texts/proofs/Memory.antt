@@ -2,32 +2,24 @@
 use Rattle.std.proofs.Common.{◌≡◌, ℕ, zero, suc, ◌+◌, ◌<◌, ◌≤◌, ◌⊎◌, inl, inr, Bool, true, false}
 use Rattle.std.proofs.Common.{◌||◌, not, cond, List, [], ◌∷◌, ◌++◌, length, drop, Option, Some}
 use Rattle.std.proofs.Common.{None, option_map, Result, Ok, Err, refl, sym, ap, ◌∙◌, subst, arith}
-use Rattle.std.specs.Prelude.{IsTrue}
-use Rattle.std.specs.List.{list_any}
-use Rattle.std.specs.Option.{ok_or}
+use Rattle.std.specs.{Prelude.IsTrue, List.list_any, Option.ok_or}
 use Rattle.std.proofs.lemmas.Bool.{false≢true}
 use Rattle.cube.specs.declared.moves.Move.{Move}
 use Rattle.attempts.specs.declared.Value.{Value}
-use Rattle.texts.specs.declared.command.Entered.{Entered}
-use Rattle.texts.specs.declared.command.Entered.TheVariants as entered
-use Rattle.texts.specs.declared.reading.CommandFault.{CommandFault}
-use Rattle.texts.specs.declared.reading.CommandFault.TheVariants as fault
-use Rattle.texts.specs.declared.table.FieldKind.{FieldKind}
-use Rattle.texts.specs.declared.table.FieldKind.TheVariants as kind
-use Rattle.texts.specs.declared.value.FieldValue.{FieldValue}
-use Rattle.texts.specs.declared.value.FieldValue.TheVariants as value
+use Rattle.texts.specs.declared.{command.Entered.Entered, reading.CommandFault.CommandFault}
+use Rattle.texts.specs.declared.{table.FieldKind.FieldKind, value.FieldValue.FieldValue}
 use Rattle.texts.specs.Fields.{entered_of, moves_of, name_of, new_name_of, now_of, was_of}
-use Rattle.texts.specs.Names.{is_name, is_name_in}
+use Rattle.texts.specs.{Names.is_name, Names.is_name_in, Reading.values_of}
 use Rattle.texts.specs.Reading.{◌>>=◌, field_of, next_of, no_field, takes_memory, value_of}
-use Rattle.texts.specs.Reading.{values_of}
 use Rattle.texts.specs.Spelling.{AllFit, Fits, standing}
 use Rattle.texts.specs.Table.{is_kept, is_rest, is_rest_last, kept_at}
 use Rattle.texts.specs.model.Returned.{GivesNext, GivesValues, MayBeSolution, Next, TakesForNext}
 use Rattle.texts.specs.model.Returned.{TakesForValue, TakesForValues, after}
-use Rattle.texts.proofs.Cuts.{and-true}
-use Rattle.texts.proofs.Rows.{or-false}
-use Rattle.texts.proofs.Splits.{not-true}
-use Rattle.texts.proofs.Values.{may_have_mark}
+use Rattle.texts.proofs.{Cuts.and-true, Rows.or-false, Splits.not-true, Values.may_have_mark}
+use Rattle.texts.specs.declared.command.Entered.TheVariants as entered
+use Rattle.texts.specs.declared.reading.CommandFault.TheVariants as fault
+use Rattle.texts.specs.declared.table.FieldKind.TheVariants as kind
+use Rattle.texts.specs.declared.value.FieldValue.TheVariants as value
 
 -- ---- one value
 
@@ -105,9 +97,7 @@ next_takes stands k index bytes h = step (value_of stands k (field_of k bytes).0
 abbrev pub IsFrom : {A : Type 0} → ℕ → Result A CommandFault → Type 0
 IsFrom index (Ok x) = Unit {0}
 IsFrom index (Err (fault.BadField i)) = index ≤ i
-IsFrom index (Err fault.TooLong) = ⊥
-IsFrom index (Err fault.NotACommand) = ⊥
-IsFrom index (Err fault.NoMemory) = ⊥
+IsFrom index _ = ⊥
 
 then : {A B : Type 0} (index : ℕ) (r : Result A CommandFault) (f : A → Result B CommandFault)
     → IsFrom index r → ((x : A) → IsFrom index (f x)) → IsFrom index (r >>= f)
@@ -268,9 +258,7 @@ stops view ks i index stands k rest vs left ahead e last at place so_far h =
         → GivesValues view ks (Err e) (after vs (values_of stands (drop i ks) index ahead))
     given_so fault.NoMemory h =
         subst (TakesForValues ks) whole (taken (next_of stands k index ahead) h)
-    given_so fault.TooLong h = sym whole ∙ ap said h
-    given_so fault.NotACommand h = sym whole ∙ ap said h
-    given_so (fault.BadField f) h = sym whole ∙ ap said h
+    given_so _ h = sym whole ∙ ap said h
 
 -- ---- before a remark
 

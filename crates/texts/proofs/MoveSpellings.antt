@@ -2,26 +2,20 @@
 use Rattle.std.proofs.Common.{◌≡◌, ℕ, zero, suc, ◌<◌, ◌≤◌, inl, inr, true, false, nat_lt, nat_le}
 use Rattle.std.proofs.Common.{List, [], ◌∷◌, ◌++◌, length, map, All, get_or, replicate, Option}
 use Rattle.std.proofs.Common.{Some, None, Ok, Err, refl, sym, ap, ◌∙◌, subst, arith}
-use Rattle.std.specs.List.{list_all}
-use Rattle.std.specs.Option.{option_and_then}
+use Rattle.std.specs.{List.list_all, Option.option_and_then}
 use Rattle.std.proofs.lemmas.Bool.{false≢true}
 use Rattle.std.proofs.lemmas.Bool.Decides.{nat_tests}
 use Rattle.cube.specs.declared.moves.Side.TheVariants.{U, R, F, D, L, B}
 use Rattle.cube.specs.declared.moves.Axis.TheVariants.{X, Y, Z}
-use Rattle.cube.specs.declared.moves.Kind.{Kind}
+use Rattle.cube.specs.declared.moves.{Kind.Kind, Quarter.Quarter, Move.Move}
 use Rattle.cube.specs.declared.moves.Kind.TheVariants.{Face, Block, Turn}
-use Rattle.cube.specs.declared.moves.Quarter.{Quarter}
 use Rattle.cube.specs.declared.moves.Quarter.TheVariants.{Clockwise, Half, Anticlockwise}
-use Rattle.cube.specs.declared.moves.Move.{Move}
-use Rattle.cube.specs.declared.notation.reading.NotationFault.{NotationFault}
-use Rattle.cube.specs.declared.notation.reading.NotationFault.TheVariants.{NoMemory}
+use Rattle.cube.specs.declared.notation.reading.NotationFault.{NotationFault, TheVariants.NoMemory}
 use Rattle.cube.specs.notation.Tokens.{token}
 use Rattle.cube.specs.notation.Notation.{Spells, IsUnlessNoMemory, spelling as moves_text}
-use Rattle.texts.specs.Names.{has_single_spaces}
-use Rattle.texts.specs.Spelling.{AreMoves}
+use Rattle.texts.{specs.Names.has_single_spaces, specs.Spelling.AreMoves, proofs.Cuts.and-true}
 use Rattle.texts.specs.Fields.{every_move, move_by, move_of, all_of, at_most_400, moves_of}
-use Rattle.texts.proofs.Cuts.{and-true, lacks}
-use Rattle.texts.proofs.Spelled.{IsSpelled, chosen, find-only}
+use Rattle.texts.proofs.{Cuts.lacks, Spelled.IsSpelled, Spelled.chosen, Spelled.find-only}
 use Rattle.texts.proofs.Splits.{joined-found, joined-only, parts, parts-front, parts-spelled}
 
 -- Tokens.

@@ -1,17 +1,10 @@
 -- How much room a name takes where each double quote of it is doubled.
-use Rattle.std.proofs.Common.{◌≡◌, ◌≢◌, ℕ, zero, suc, ◌+◌, ◌<◌}
-use Rattle.std.proofs.Common.{◌≤◌, Bool, true, false, ◌||◌, ◌==◌, not}
-use Rattle.std.proofs.Common.{IsTrue, List, [], ◌∷◌, length, get_or, refl, sym, ◌∙◌, subst}
-use Rattle.std.proofs.Common.{arith}
-use Rattle.std.specs.Prelude.{count_by}
-use Rattle.std.specs.List.{list_all}
-use Rattle.std.specs.Str.{chars, is_utf8, encode_utf8_all}
-use Rattle.std.specs.Char.{encode_utf8}
+use Rattle.std.proofs.Common.{◌≡◌, ◌≢◌, ℕ, zero, suc, ◌+◌, ◌<◌, ◌≤◌, Bool, true, false, ◌||◌, ◌==◌}
+use Rattle.std.proofs.Common.{not, IsTrue, List, [], ◌∷◌, length, get_or, refl, sym, ◌∙◌, subst}
+use Rattle.std.{proofs.Common.arith, specs.Char.encode_utf8, proofs.lemmas.Bool.Decides.nat_tests}
+use Rattle.std.specs.{Prelude.count_by, List.list_all, Str.chars, Str.is_utf8, Str.encode_utf8_all}
 use Rattle.std.proofs.lemmas.Bool.{false≢true}
-use Rattle.std.proofs.lemmas.Bool.Decides.{nat_tests}
-use Rattle.std.proofs.lemmas.List.Folds.{list_all-append}
-use Rattle.std.proofs.lemmas.List.Sums.{count_by-le-length}
-use Rattle.std.proofs.lemmas.List.{append-nil}
+use Rattle.std.proofs.lemmas.List.{Folds.list_all-append, Sums.count_by-le-length, append-nil}
 use Rattle.std.proofs.lemmas.Str.{IsUtf8-from_is_utf8, encodes-chars, inside_one}
 use Rattle.ucd_category.specs.GeneralCategory.{general_category}
 use Rattle.texts.specs.Names.{has_single_spaces, is_name_byte, is_early_name, is_seen}

@@ -2,18 +2,14 @@
 use Rattle.std.proofs.Common.{◌≡◌, ℕ, ◌+◌, ◌*◌, ◌-◌, ◌<◌, ◌≤◌, zero, suc, Bool, true, false, ◌&&◌}
 use Rattle.std.proofs.Common.{◌==◌, cond, nat_le, List, length, fold, get_or, Some, None, refl, sym}
 use Rattle.std.proofs.Common.{◌∙◌, subst, arith, rules, decimal, bytes_eq}
-use Rattle.std.specs.Fmt.{digits}
-use Rattle.std.specs.Char.{is_ascii_digit}
-use Rattle.std.specs.List.{list_all}
+use Rattle.std.specs.{Fmt.digits, Char.is_ascii_digit, List.list_all}
 use Rattle.std.proofs.lemmas.Bool.{false≢true}
-use Rattle.std.proofs.lemmas.Bool.Decides.{nat_tests}
+use Rattle.std.proofs.lemmas.{Bool.Decides.nat_tests, Slice.Eq.bytes_eq-Decides}
 use Rattle.std.proofs.lemmas.Fmt.{decimal-digits_value, digits_decimal, digits_value-decimal}
 use Rattle.std.proofs.lemmas.Fmt.{length-decimal-le, decimal_nonempty, first_decimal}
 use Rattle.std.proofs.lemmas.Str.Parse.{IsNumeralModel, numerals_by_fold, digits_value_short}
-use Rattle.std.proofs.lemmas.Slice.Eq.{bytes_eq-Decides}
 use Rattle.texts.specs.Numerals.{digits_value, within}
-use Rattle.texts.specs.model.Numeral.{is_numeral}
-use Rattle.texts.specs.Fields.{number_between}
+use Rattle.texts.specs.{model.Numeral.is_numeral, Fields.number_between}
 
 -- digits stand for their value
 pub own : IsNumeralModel (λ ds. list_all is_ascii_digit ds ≡ true) digits_value

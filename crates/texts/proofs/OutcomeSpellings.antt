@@ -4,16 +4,14 @@ use Rattle.std.proofs.Common.{codes, decimal, bytes_eq, Option, Some, None, refl
 use Rattle.std.proofs.Common.{subst, arith, append_assoc, take-append-drop}
 use Rattle.std.specs.Option.{option_map, option_and_then}
 use Rattle.std.proofs.lemmas.Bool.Decides.{nat_tests}
-use Rattle.cube.specs.declared.moves.Move.{Move}
-use Rattle.cube.specs.notation.Notation.{spelling as moves_text}
-use Rattle.texts.specs.declared.command.Entered.{Entered}
+use Rattle.cube.specs.{declared.moves.Move.Move, notation.Notation.spelling as moves_text}
+use Rattle.texts.{specs.declared.command.Entered.Entered, proofs.MoveSpellings.moves_spelled}
 use Rattle.texts.specs.declared.command.Entered.TheVariants.{Time, Solution, Multi, Dnf, Dns}
 use Rattle.texts.specs.Spelling.{IsWithin, IsEntered, entered_text}
 use Rattle.texts.specs.Fields.{number_between, cut, two_numbers, moves_of, time_with, time_of}
 use Rattle.texts.specs.Fields.{multi_with, attempted_of, multi_of, entered_of}
 use Rattle.texts.proofs.Cuts.{behind, cut_spelled, cut-behind}
 use Rattle.texts.proofs.Spelled.{IsSpelled, bytes_eq-equal}
-use Rattle.texts.proofs.MoveSpellings.{moves_spelled}
 use Rattle.texts.proofs.FieldSpellings.{number_spelled, decimal_no_colon, pair-only, pair-found}
 
 -- A time and its penalties.

@@ -2,13 +2,9 @@
 use Rattle.std.proofs.Common.{◌≡◌, ℕ, suc, ◌+◌, ◌<◌, Bool, true, false, ◌&&◌, ◌==◌, not, cond, List}
 use Rattle.std.proofs.Common.{[], ◌∷◌, ◌++◌, length, take, drop, get_or, codes, bytes_eq, Option}
 use Rattle.std.proofs.Common.{Some, None, refl, sym, ap, ◌∙◌, append_assoc, take-append-drop}
-use Rattle.std.proofs.Common.{add-one, drop-cons}
-use Rattle.std.proofs.Math.Seq.{take-suc}
-use Rattle.texts.specs.Fields.{cut_remark}
-use Rattle.texts.specs.Spelling.{with_remark_text}
-use Rattle.texts.proofs.Cuts.{and-true, lacks}
-use Rattle.texts.proofs.Spelled.{bytes_eq-equal}
-use Rattle.texts.proofs.Splits.{not-true}
+use Rattle.std.proofs.{Common.add-one, Common.drop-cons, Math.Seq.take-suc}
+use Rattle.texts.specs.{Fields.cut_remark, Spelling.with_remark_text}
+use Rattle.texts.proofs.{Cuts.and-true, Cuts.lacks, Spelled.bytes_eq-equal, Splits.not-true}
 
 pub more_text : (b : ℕ) (text : List ℕ) (remark : Option (List ℕ))
     → with_remark_text (b ∷ text) remark ≡ b ∷ with_remark_text text remark

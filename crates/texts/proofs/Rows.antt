@@ -1,30 +1,21 @@
 -- What is read by a row is what its values spell, and what they spell is read.
-use Rattle.std.proofs.Common.{◌≡◌, ℕ, ◌+◌, ◌≤◌, nat_le, Bool, true, false, ◌&&◌, ◌||◌, not}
-use Rattle.std.proofs.Common.{cond, List, [], ◌∷◌, ◌++◌, length, map, bytes_eq, find, Option, Some}
-use Rattle.std.proofs.Common.{None, Result, Ok, Err, refl, sym, ap, ◌∙◌, subst, arith, rules}
-use Rattle.std.proofs.Common.{length-append}
-use Rattle.std.specs.List.{join_with_byte, list_all, list_any}
-use Rattle.std.specs.Option.{ok_or}
+use Rattle.std.proofs.Common.{◌≡◌, ◌+◌, ◌≤◌, not, [], ◌∷◌, map, None, Ok, Err, refl, sym, ap, ◌∙◌}
+use Rattle.std.proofs.Common.{ℕ, Bool, true, ◌&&◌, ◌||◌, cond, List, ◌++◌, find, Some, arith, rules}
+use Rattle.std.proofs.Common.{nat_le, false, length, bytes_eq, Option, Result, subst, length-append}
+use Rattle.std.specs.{List.join_with_byte, List.list_all, List.list_any, Option.ok_or}
 use Rattle.std.proofs.lemmas.Bool.{false≢true}
-use Rattle.std.proofs.lemmas.Bool.Decides.{nat_tests}
-use Rattle.std.proofs.lemmas.List.{append-nil}
-use Rattle.texts.specs.declared.reading.CommandFault.{CommandFault}
-use Rattle.texts.specs.declared.reading.CommandFault.TheVariants as fault
-use Rattle.texts.specs.declared.table.FieldKind.{FieldKind}
-use Rattle.texts.specs.declared.table.Tag.{Tag}
-use Rattle.texts.specs.declared.table.Tag.TheVariants as tag
-use Rattle.texts.specs.declared.value.FieldValue.{FieldValue}
-use Rattle.texts.specs.Fields.{cut}
+use Rattle.std.proofs.lemmas.{Bool.Decides.nat_tests, List.append-nil}
+use Rattle.texts.specs.declared.{reading.CommandFault.CommandFault, value.FieldValue.FieldValue}
+use Rattle.texts.specs.{declared.table.FieldKind.FieldKind, declared.table.Tag.Tag, Fields.cut}
 use Rattle.texts.specs.Reading.{◌>>=◌, field_of, next_of, value_of, values_of}
 use Rattle.texts.specs.Spelling.{AllFit, Fits, standing, value_text, values_text}
 use Rattle.texts.specs.Table.{TheRow, has_moves, is_rest, is_rest_last, row_named, row_of, rows}
-use Rattle.texts.specs.model.Returned.{Next}
-use Rattle.texts.proofs.Bytes.{both_pass, is_plain}
+use Rattle.texts.{specs.model.Returned.Next, proofs.Values.value_plain, proofs.Values.value_short}
+use Rattle.texts.proofs.{Bytes.both_pass, Bytes.is_plain, Spelled.bytes_eq-equal, Splits.not-true}
 use Rattle.texts.proofs.Cuts.{and-true, behind, cut-behind, cut_spelled, lacks}
-use Rattle.texts.proofs.Spelled.{bytes_eq-equal}
-use Rattle.texts.proofs.Splits.{not-true}
 use Rattle.texts.proofs.Values.{may_have_mark, most_of, value_found, value_no_space, value_only}
-use Rattle.texts.proofs.Values.{value_plain, value_short}
+use Rattle.texts.specs.declared.reading.CommandFault.TheVariants as fault
+use Rattle.texts.specs.declared.table.Tag.TheVariants as tag
 
 -- a step that went well
 abbrev pub Bound : {A B : Type 0} → Result A CommandFault → (A → Result B CommandFault) → B → Type 0

@@ -6,13 +6,11 @@ use Rattle.std.specs.List.{slice_split, join_with_byte, position_or_len, prefix_
 use Rattle.std.specs.Option.{option_and_then, option_map}
 use Rattle.std.proofs.lemmas.Bool.{false≢true}
 use Rattle.std.proofs.lemmas.Bool.Decides.{nat_tests}
-use Rattle.std.proofs.lemmas.List.{append-nil, length-map}
+use Rattle.std.proofs.lemmas.List.{append-nil, length-map, Splits.slice_split_first}
 use Rattle.std.proofs.lemmas.List.Elements.{All-cons, All-head, All-nil, All-tail}
 use Rattle.std.proofs.lemmas.List.Splits.{join_with_byte-slice_split, length-slice_split}
-use Rattle.std.proofs.lemmas.List.Splits.{slice_split_first}
 use Rattle.texts.specs.Fields.{all_of, at_most_5, cut, cut_at}
-use Rattle.texts.proofs.Cuts.{and-true, eqb-same, lacks}
-use Rattle.texts.proofs.Spelled.{IsSpelled}
+use Rattle.texts.proofs.{Cuts.and-true, Cuts.eqb-same, Cuts.lacks, Spelled.IsSpelled}
 
 pub not-true : (b : Bool) → not b ≡ true → b ≡ false
 not-true false h = refl

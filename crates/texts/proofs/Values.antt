@@ -2,30 +2,23 @@
 use Rattle.std.proofs.Common.{◌≡◌, ℕ, ◌≤◌, Bool, true, false, List, length, decimal, Option, Some}
 use Rattle.std.proofs.Common.{None, option_map, refl, ◌∙◌, subst, arith}
 use Rattle.std.specs.List.{list_all}
-use Rattle.texts.specs.declared.table.FieldKind.{FieldKind}
-use Rattle.texts.specs.declared.table.FieldKind.TheVariants as kind
-use Rattle.texts.specs.declared.value.FieldValue.{FieldValue}
-use Rattle.texts.specs.declared.value.FieldValue.TheVariants as value
+use Rattle.texts.specs.declared.{table.FieldKind.FieldKind, value.FieldValue.FieldValue}
 use Rattle.formats.specs.Events.{last_round}
-use Rattle.texts.specs.Fields.{number_between}
-use Rattle.texts.specs.Reading.{value_of}
+use Rattle.texts.specs.{Fields.number_between, Reading.value_of, Table.has_moves, Table.is_rest}
 use Rattle.texts.specs.Spelling.{Fits, IsWithin, last_edition, value_text}
-use Rattle.texts.specs.Table.{has_moves, is_rest}
-use Rattle.texts.proofs.Bytes.{advance_plain, cutoff_plain, entered_plain, event_plain}
+use Rattle.texts.proofs.Bytes.{advance_plain, cutoff_plain, entered_plain, event_plain, was_plain}
 use Rattle.texts.proofs.Bytes.{format_plain, is_plain, limit_plain, moves_plain, now_plain}
-use Rattle.texts.proofs.Bytes.{number_plain, was_no_space, was_plain}
+use Rattle.texts.proofs.{Bytes.number_plain, Bytes.was_no_space, OutcomeSpellings.entered_spelled}
 use Rattle.texts.proofs.CardSpellings.{now_spelled, was_short, was_spelled}
-use Rattle.texts.proofs.Cuts.{lacks}
-use Rattle.texts.proofs.Spelled.{IsSpelled}
-use Rattle.texts.proofs.FieldSpellings.{decimal_no_space, name_spelled, event_spelled, number_short}
-use Rattle.texts.proofs.FieldSpellings.{name_short, new_name_short, event_short, format_short}
-use Rattle.texts.proofs.FieldSpellings.{cutoff_short, limit_short, advance_short, number_spelled}
-use Rattle.texts.proofs.FieldSpellings.{event_no_space, format_spelled, format_no_space}
-use Rattle.texts.proofs.FieldSpellings.{cutoff_spelled, cutoff_no_space, limit_spelled}
-use Rattle.texts.proofs.FieldSpellings.{limit_no_space, advance_spelled, advance_no_space}
-use Rattle.texts.proofs.FieldSpellings.{new_name_spelled}
-use Rattle.texts.proofs.MoveSpellings.{moves_spelled}
-use Rattle.texts.proofs.OutcomeSpellings.{entered_spelled}
+use Rattle.texts.proofs.{Cuts.lacks, Spelled.IsSpelled, MoveSpellings.moves_spelled}
+use Rattle.texts.proofs.FieldSpellings.{decimal_no_space, advance_no_space, new_name_spelled}
+use Rattle.texts.proofs.FieldSpellings.{name_spelled, event_spelled, advance_short, limit_spelled}
+use Rattle.texts.proofs.FieldSpellings.{number_short, name_short, format_short, cutoff_short}
+use Rattle.texts.proofs.FieldSpellings.{new_name_short, event_short, number_spelled, event_no_space}
+use Rattle.texts.proofs.FieldSpellings.{limit_short, format_spelled, cutoff_spelled, limit_no_space}
+use Rattle.texts.proofs.FieldSpellings.{format_no_space, cutoff_no_space, advance_spelled}
+use Rattle.texts.specs.declared.table.FieldKind.TheVariants as kind
+use Rattle.texts.specs.declared.value.FieldValue.TheVariants as value
 
 -- numbers, each in its range
 

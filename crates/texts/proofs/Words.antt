@@ -2,40 +2,30 @@
 use Rattle.std.proofs.Common.{◌≡◌, ℕ, ◌≤◌, Bool, true, false, ◌&&◌, cond, nat_lt, List, [], ◌∷◌}
 use Rattle.std.proofs.Common.{◌++◌, length, Option, Some, None, Result, Ok, Err, refl, sym, ap, ◌∙◌}
 use Rattle.std.proofs.Common.{◌+◌, subst, arith, append_assoc, length-append}
-use Rattle.std.specs.Prelude.{IsTrue}
-use Rattle.std.specs.List.{join_with_byte, list_any}
-use Rattle.std.specs.Option.{ok_or}
-use Rattle.std.specs.Result.{IfOk}
+use Rattle.std.specs.{Prelude.IsTrue, List.join_with_byte, List.list_any, Option.ok_or, Result.IfOk}
 use Rattle.std.proofs.lemmas.Bool.{false≢true}
 use Rattle.std.proofs.lemmas.Bool.Decides.{nat_tests}
-use Rattle.texts.specs.declared.command.Command.{Command}
-use Rattle.texts.specs.declared.command.Command.TheVariants.{Register}
-use Rattle.texts.specs.declared.command.RemarkedCommand.{RemarkedCommand}
-use Rattle.texts.specs.declared.reading.CommandFault.{CommandFault}
-use Rattle.texts.specs.declared.reading.CommandFault.TheVariants as fault
-use Rattle.texts.specs.declared.table.FieldKind.{FieldKind}
-use Rattle.texts.specs.declared.table.Tag.{Tag}
-use Rattle.texts.specs.declared.table.Tag.TheVariants as tag
-use Rattle.texts.specs.declared.value.FieldValue.{FieldValue}
-use Rattle.texts.specs.declared.value.FieldValue.TheVariants as value
-use Rattle.texts.specs.Fields.{cut, cut_remark}
-use Rattle.texts.specs.Names.{is_remark}
-use Rattle.texts.specs.Parts.{Parts, made_of, parts}
+use Rattle.texts.specs.declared.command.Command.{Command, TheVariants.Register}
+use Rattle.texts.specs.{declared.command.RemarkedCommand.RemarkedCommand, Names.is_remark}
+use Rattle.texts.specs.declared.{reading.CommandFault.CommandFault, value.FieldValue.FieldValue}
+use Rattle.texts.specs.declared.table.{FieldKind.FieldKind, Tag.Tag}
+use Rattle.texts.specs.{Fields.cut, Fields.cut_remark, Parts.Parts, Table.takes_remark_in}
+use Rattle.texts.specs.{Parts.made_of, Parts.parts, Spelling.value_text, Spelling.words_by}
 use Rattle.texts.specs.Reading.{◌>>=◌, Gives, ReadsAs, TakesMemory, before_remark, by_row}
 use Rattle.texts.specs.Reading.{command_of, kept_field, takes_memory, told, values_of, with_remark}
 use Rattle.texts.specs.Spelling.{AllFit, AreInRange, IsFit, IsFitRemark, IsFitTold, IsLeftShort}
 use Rattle.texts.specs.Spelling.{IsShort, spelling, told_spelling, values_text, with_remark_text}
-use Rattle.texts.specs.Spelling.{value_text, words_by}
 use Rattle.texts.specs.Table.{TheRow, fields_in, has_moves, kept_at, row_named, row_of, rows}
-use Rattle.texts.specs.Table.{takes_remark_in}
 use Rattle.texts.specs.model.Returned.{GivesRemark, GivesValues, TakesForRemark, TakesForValues}
-use Rattle.texts.proofs.Bytes.{is_plain, passes_lack}
+use Rattle.texts.proofs.{Bytes.is_plain, Bytes.passes_lack, Memory.kept_fields}
 use Rattle.texts.proofs.Cuts.{behind, cut-behind, cut_spelled, lacks}
-use Rattle.texts.proofs.Memory.{kept_fields}
 use Rattle.texts.proofs.Remarks.{cut_remark_found, cut_remark_spelled, more_text}
 use Rattle.texts.proofs.Rows.{IsNamed, IsRow, bars_remark, bound, left_of, named_row, no_mark}
 use Rattle.texts.proofs.Rows.{ok_same, room_of, row_right, taken, text_is, values_found}
 use Rattle.texts.proofs.Rows.{values_only, values_plain, values_short}
+use Rattle.texts.specs.declared.reading.CommandFault.TheVariants as fault
+use Rattle.texts.specs.declared.table.Tag.TheVariants as tag
+use Rattle.texts.specs.declared.value.FieldValue.TheVariants as value
 
 abbrev pub Spells : List ℕ → RemarkedCommand → Type 0
 Spells bytes c = IsFitTold c × (bytes ≡ told_spelling c)
@@ -506,9 +496,7 @@ gives_values view word row left front remark e is cut_so h =
         → GivesValues view row.fields (Err e) (values_of 0 row.fields 1 front)
         → Gives (kept_at 1 row.fields) (Err e) (of (values_of 0 row.fields 1 front))
     step fault.NoMemory h = takes (values_of 0 row.fields 1 front) refl h
-    step fault.TooLong h = ap of h
-    step fault.NotACommand h = ap of h
-    step (fault.BadField index) h = ap of h
+    step _ h = ap of h
 
 pub gives_too_long : (kept : ℕ) (bytes : List ℕ) → nat_lt 600 (length bytes) ≡ true
     → Gives kept (Err fault.TooLong) (command_of bytes)

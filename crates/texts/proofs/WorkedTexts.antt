@@ -1,11 +1,8 @@
 -- The worked texts, computed.
-use Rattle.std.proofs.Common.{refl}
-use Rattle.std.specs.Fmt.{digits}
+use Rattle.std.{proofs.Common.refl, specs.Fmt.digits}
 use Rattle.formats.specs.Events.{event_of_name, format_named}
 use Rattle.texts.specs.Fields.{cut, entered_of, move_of, moves_of, now_of, number_between, was_of}
-use Rattle.texts.specs.Names.{is_clear_name}
-use Rattle.texts.specs.Reading.{command_of}
-use Rattle.texts.specs.Table.{rows}
+use Rattle.texts.specs.{Names.is_clear_name, Reading.command_of, Table.rows}
 use Rattle.texts.specs.WorkedTexts.{ReadsWorkedTexts}
 
 pub worked_texts : ReadsWorkedTexts

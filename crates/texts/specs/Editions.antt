@@ -4,15 +4,12 @@
 use Rattle.std.specs.Prelude.{ℕ, Bool, true, ◌&&◌, nat_le, max, fold, is_some, if◌then◌else◌}
 use Rattle.std.specs.List.{list_all}
 use Rattle.formats.specs.Events.{event_edition}
-use Rattle.texts.specs.declared.command.Command.{Command}
-use Rattle.texts.specs.declared.command.Entered.{Entered}
-use Rattle.texts.specs.declared.command.Entered.TheVariants as entered
-use Rattle.texts.specs.declared.command.RemarkedCommand.{RemarkedCommand}
-use Rattle.texts.specs.declared.value.FieldValue.{FieldValue}
-use Rattle.texts.specs.declared.value.FieldValue.TheVariants as value
-use Rattle.texts.specs.Names.{is_name_in}
-use Rattle.texts.specs.Parts.{parts}
+use Rattle.texts.specs.declared.command.{Command.Command, Entered.Entered}
+use Rattle.texts.specs.{declared.command.RemarkedCommand.RemarkedCommand, Names.is_name_in}
+use Rattle.texts.specs.{declared.value.FieldValue.FieldValue, Parts.parts}
 use Rattle.texts.specs.Table.{row_of, since_in}
+use Rattle.texts.specs.declared.command.Entered.TheVariants as entered
+use Rattle.texts.specs.declared.value.FieldValue.TheVariants as value
 
 -- the first edition that has the outcome
 abbrev pub entered_edition : Entered → ℕ

@@ -3,28 +3,21 @@
 use Rattle.std.specs.Prelude.{ℕ, ◌+◌, ◌==◌, if◌then◌else◌, List, [], ◌∷◌, map, flat_map, find}
 use Rattle.std.specs.Prelude.{length, nat_le, take, drop, position, bytes_eq, codes, decimal}
 use Rattle.std.specs.Prelude.{Option, Some, None, Bool, is_some}
-use Rattle.std.specs.List.{list_all, slice_split}
-use Rattle.std.specs.Option.{option_and_then, option_map}
+use Rattle.std.specs.{List.list_all, List.slice_split, Option.option_and_then, Option.option_map}
 use Rattle.cube.specs.declared.moves.Side.TheVariants.{U, R, F, D, L, B}
 use Rattle.cube.specs.declared.moves.Axis.TheVariants.{X, Y, Z}
-use Rattle.cube.specs.declared.moves.Kind.{Kind}
+use Rattle.cube.specs.declared.moves.{Kind.Kind, Quarter.Quarter, Move.Move}
 use Rattle.cube.specs.declared.moves.Kind.TheVariants.{Face, Block, Turn}
-use Rattle.cube.specs.declared.moves.Quarter.{Quarter}
 use Rattle.cube.specs.declared.moves.Quarter.TheVariants.{Clockwise, Half, Anticlockwise}
-use Rattle.cube.specs.declared.moves.Move.{Move}
 use Rattle.cube.specs.notation.Tokens.{token}
-use Rattle.formats.specs.declared.advance.Advance.{Advance}
+use Rattle.formats.specs.declared.{advance.Advance.Advance, events.Event.Event}
 use Rattle.formats.specs.declared.advance.Advance.TheVariants.{Final, Top, Percent}
-use Rattle.formats.specs.declared.events.Event.{Event}
 use Rattle.attempts.specs.declared.Value.{Value}
-use Rattle.attempts.specs.declared.Value.TheVariants as value
-use Rattle.texts.specs.declared.command.RoundId.{RoundId}
-use Rattle.texts.specs.declared.command.CardEntry.{CardEntry}
-use Rattle.texts.specs.declared.command.AttemptEntry.{AttemptEntry}
-use Rattle.texts.specs.declared.command.Entered.{Entered}
-use Rattle.texts.specs.declared.command.Entered.TheVariants as entered
+use Rattle.texts.specs.declared.command.{RoundId.RoundId, CardEntry.CardEntry, Entered.Entered}
+use Rattle.texts.specs.{declared.command.AttemptEntry.AttemptEntry, Names.is_name, Names.is_name_in}
 use Rattle.texts.specs.Numerals.{digits_value, within}
-use Rattle.texts.specs.Names.{is_name, is_name_in}
+use Rattle.attempts.specs.declared.Value.TheVariants as value
+use Rattle.texts.specs.declared.command.Entered.TheVariants as entered
 
 -- What is before the first of a byte, and what is after it, where it is there.
 abbrev pub cut_at : List ℕ → Option ℕ → List ℕ × Option (List ℕ)

@@ -2,11 +2,10 @@
 -- project's own; the categories of characters are Unicode's, its property General_Category.
 use Rattle.std.specs.Prelude.{ℕ, Bool, true, false, ◌==◌, ◌&&◌, ◌||◌, not, nat_lt, nat_le}
 use Rattle.std.specs.Prelude.{if◌then◌else◌, List, length}
-use Rattle.std.specs.List.{list_all, slice_split}
-use Rattle.std.specs.Str.{is_utf8, chars}
+use Rattle.std.specs.{List.list_all, List.slice_split, Str.is_utf8, Str.chars}
 use Rattle.ucd_category.specs.declared.GeneralCategory.{GeneralCategory}
-use Rattle.ucd_category.specs.declared.GeneralCategory.TheVariants as category
 use Rattle.ucd_category.specs.GeneralCategory.{general_category}
+use Rattle.ucd_category.specs.declared.GeneralCategory.TheVariants as category
 
 -- each part between spaces has a byte: no space is at an end, and no two are in a row
 abbrev pub has_single_spaces : List ℕ → Bool

@@ -3,26 +3,20 @@ use Rattle.std.specs.Prelude.{ℕ, List, [], ◌∷◌, Option, None, Some, slic
 use Rattle.attempts.specs.declared.Value.{Value}
 use Rattle.cube.specs.declared.moves.Move.{Move}
 use Rattle.formats.specs.declared.advance.Advance.{Advance}
-use Rattle.formats.specs.declared.events.Event.{Event}
-use Rattle.formats.specs.declared.events.Format.{Format}
-use Rattle.texts.specs.declared.command.Command.{Command}
+use Rattle.formats.specs.declared.events.{Event.Event, Format.Format}
+use Rattle.texts.specs.declared.command.{Command.Command, AttemptEntry.AttemptEntry}
 use Rattle.texts.specs.declared.command.Command.TheVariants.{Register, Open, Enter, Scramble}
 use Rattle.texts.specs.declared.command.Command.TheVariants.{Attempt, Correct, Strike, SetAdvance}
 use Rattle.texts.specs.declared.command.Command.TheVariants.{Close, SetEdition, Rename, SetRound}
-use Rattle.texts.specs.declared.command.Command.TheVariants.{Rescramble, Withdraw, Reopen}
-use Rattle.texts.specs.declared.command.Command.TheVariants.{Card, Fix, Cancel}
-use Rattle.texts.specs.declared.command.AttemptEntry.{AttemptEntry}
-use Rattle.texts.specs.declared.command.CardEntry.{CardEntry}
-use Rattle.texts.specs.declared.command.Entered.{Entered}
-use Rattle.texts.specs.declared.command.RoundId.{RoundId}
-use Rattle.texts.specs.declared.command.Settings.{Settings}
-use Rattle.texts.specs.declared.table.Tag.{Tag}
-use Rattle.texts.specs.declared.table.Tag.TheVariants as tag
-use Rattle.texts.specs.declared.value.LentValue.{LentValue}
-use Rattle.texts.specs.declared.value.LentValue.TheVariants as lending
-use Rattle.texts.specs.declared.value.FieldValue.{FieldValue}
-use Rattle.texts.specs.declared.value.FieldValue.TheVariants as value
+use Rattle.texts.specs.declared.command.Command.TheVariants.{Rescramble, Withdraw, Reopen, Card}
+use Rattle.texts.specs.declared.command.Command.TheVariants.{Fix, Cancel}
+use Rattle.texts.specs.declared.command.{CardEntry.CardEntry, Entered.Entered, RoundId.RoundId}
+use Rattle.texts.specs.declared.{command.Settings.Settings, table.Tag.Tag}
+use Rattle.texts.specs.declared.value.{LentValue.LentValue, FieldValue.FieldValue}
 use Rattle.texts.specs.Fields.{round_id, attempt_entry, card_entry}
+use Rattle.texts.specs.declared.table.Tag.TheVariants as tag
+use Rattle.texts.specs.declared.value.LentValue.TheVariants as lending
+use Rattle.texts.specs.declared.value.FieldValue.TheVariants as value
 
 -- ---- values
 

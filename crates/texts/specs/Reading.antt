@@ -1,25 +1,20 @@
 -- The command that a text spells, or the first fault from the left (the project's own).
 use Rattle.std.specs.Prelude.{◌≡◌, ◌≤◌, ◌<◌, ℕ, ◌+◌, nat_lt, Bool, true, false, ◌||◌, if◌then◌else◌}
-use Rattle.std.specs.Prelude.{IsTrue, List, [], ◌∷◌, length, Option, Some, None, is_some}
-use Rattle.std.specs.Prelude.{option_map, Result, Ok, Err}
-use Rattle.std.specs.List.{list_any}
-use Rattle.std.specs.Option.{ok_or}
+use Rattle.std.specs.Prelude.{IsTrue, List, [], ◌∷◌, length, Option, Some, None, is_some, Result}
+use Rattle.std.specs.{Prelude.option_map, Prelude.Ok, Prelude.Err, List.list_any, Option.ok_or}
 use Rattle.formats.specs.Events.{event_of_name, format_named, last_round}
-use Rattle.texts.specs.declared.command.Command.{Command}
-use Rattle.texts.specs.declared.command.Entered.TheVariants as entered
-use Rattle.texts.specs.declared.command.RemarkedCommand.{RemarkedCommand}
-use Rattle.texts.specs.declared.reading.CommandFault.{CommandFault}
-use Rattle.texts.specs.declared.reading.CommandFault.TheVariants as fault
-use Rattle.texts.specs.declared.table.FieldKind.{FieldKind}
-use Rattle.texts.specs.declared.table.FieldKind.TheVariants as kind
-use Rattle.texts.specs.declared.value.FieldValue.{FieldValue}
-use Rattle.texts.specs.declared.value.FieldValue.TheVariants as value
+use Rattle.texts.specs.declared.command.{Command.Command, RemarkedCommand.RemarkedCommand}
+use Rattle.texts.specs.declared.{reading.CommandFault.CommandFault, table.FieldKind.FieldKind}
+use Rattle.texts.specs.{declared.value.FieldValue.FieldValue, Names.is_remark}
 use Rattle.texts.specs.Fields.{cut, number_between, name_of, new_name_of, cutoff_of, limit_of}
 use Rattle.texts.specs.Fields.{advance_of, moves_of, entered_of, was_of, now_of, cut_remark}
-use Rattle.texts.specs.Names.{is_remark}
 use Rattle.texts.specs.Parts.{made_of, parts}
 use Rattle.texts.specs.Spelling.{last_edition, IsFit, IsFitTold, spelling, standing, told_spelling}
 use Rattle.texts.specs.Table.{TheRow, fields_in, is_rest, kept_at, row_named}
+use Rattle.texts.specs.declared.command.Entered.TheVariants as entered
+use Rattle.texts.specs.declared.reading.CommandFault.TheVariants as fault
+use Rattle.texts.specs.declared.table.FieldKind.TheVariants as kind
+use Rattle.texts.specs.declared.value.FieldValue.TheVariants as value
 
 infixl 10 ◌>>=◌
 abbrev pub ◌>>=◌ : {A B : Type 0} → Result A CommandFault → (A → Result B CommandFault)

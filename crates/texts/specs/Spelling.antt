@@ -4,25 +4,19 @@ use Rattle.std.specs.Prelude.{◌≤◌, ℕ, Bool, true, false, IsTrue, List, [
 use Rattle.std.specs.Prelude.{codes, decimal, Option, None, Some, All, IfSome}
 use Rattle.std.specs.List.{join_with_byte, list_any}
 use Rattle.attempts.specs.declared.Value.{Value}
-use Rattle.attempts.specs.declared.Value.TheVariants as counted
 use Rattle.formats.specs.Events.{event_name, format_name, last_round}
-use Rattle.cube.specs.declared.moves.Move.{Move}
-use Rattle.cube.specs.notation.Notation.{spelling as moves_text}
+use Rattle.cube.specs.{declared.moves.Move.Move, notation.Notation.spelling as moves_text}
 use Rattle.formats.specs.declared.advance.Advance.{Advance}
 use Rattle.formats.specs.declared.advance.Advance.TheVariants.{Final, Top, Percent}
-use Rattle.texts.specs.declared.command.Command.{Command}
-use Rattle.texts.specs.declared.command.Entered.{Entered}
-use Rattle.texts.specs.declared.command.Entered.TheVariants as entered
-use Rattle.texts.specs.declared.command.RemarkedCommand.{RemarkedCommand}
-use Rattle.texts.specs.declared.command.Settings.{Settings}
-use Rattle.texts.specs.declared.table.FieldKind.{FieldKind}
-use Rattle.texts.specs.declared.table.FieldKind.TheVariants as kind
-use Rattle.texts.specs.declared.value.FieldValue.{FieldValue}
-use Rattle.texts.specs.declared.value.FieldValue.TheVariants as value
-use Rattle.texts.specs.Fields.{enters_later}
-use Rattle.texts.specs.Names.{is_name, is_name_in, is_remark}
-use Rattle.texts.specs.Parts.{Parts, parts}
+use Rattle.texts.specs.declared.command.{Command.Command, Entered.Entered, Settings.Settings}
+use Rattle.texts.specs.declared.{command.RemarkedCommand.RemarkedCommand, table.FieldKind.FieldKind}
+use Rattle.texts.specs.{declared.value.FieldValue.FieldValue, Fields.enters_later}
+use Rattle.texts.specs.{Names.is_name, Names.is_name_in, Names.is_remark, Parts.Parts, Parts.parts}
 use Rattle.texts.specs.Table.{fields_in, has_moves, row_of, takes_remark_in, word_in}
+use Rattle.attempts.specs.declared.Value.TheVariants as counted
+use Rattle.texts.specs.declared.command.Entered.TheVariants as entered
+use Rattle.texts.specs.declared.table.FieldKind.TheVariants as kind
+use Rattle.texts.specs.declared.value.FieldValue.TheVariants as value
 
 -- after k attempts, below c: `k:c`
 abbrev pub cutoff_text : Option (ℕ × ℕ) → List ℕ

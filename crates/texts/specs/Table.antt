@@ -1,16 +1,11 @@
 -- The table of commands: the constant of the code, and what is looked up in it (the project's own).
-use Rattle.std.specs.Prelude.{ℕ, ◌+◌, ◌-◌, Bool, true, false, not, ◌&&◌, if◌then◌else◌}
-use Rattle.std.specs.Prelude.{List, [], ◌∷◌, map, find, bytes_eq, slice_get}
-use Rattle.std.specs.Prelude.{Option, None, Some}
-use Rattle.std.specs.Borrow.{Bor}
-use Rattle.std.specs.List.{list_any}
+use Rattle.std.specs.Prelude.{ℕ, ◌+◌, ◌-◌, Bool, true, false, not, ◌&&◌, if◌then◌else◌, List, []}
+use Rattle.std.specs.Prelude.{◌∷◌, map, find, bytes_eq, slice_get, Option, None, Some}
+use Rattle.std.specs.{Borrow.Bor, List.list_any}
 use denote.Enum.Bare.{sameb}
 use Rattle.texts.specs.contracts.table.Tag.{the_type}
-use Rattle.texts.specs.declared.table.FieldKind.{FieldKind}
+use Rattle.texts.specs.declared.table.{FieldKind.FieldKind, Tag.Tag, Row.Row, TheConstants.ROWS}
 use Rattle.texts.specs.declared.table.FieldKind.TheVariants as kind
-use Rattle.texts.specs.declared.table.Tag.{Tag}
-use Rattle.texts.specs.declared.table.Row.{Row}
-use Rattle.texts.specs.declared.table.TheConstants.{ROWS}
 
 -- ---- the kinds of fields
 

@@ -2,30 +2,26 @@
 -- faults.
 use Rattle.std.specs.Prelude.{◌≡◌, ℕ, true, false, List, [], ◌∷◌, codes, Option, Some, None, Ok}
 use Rattle.std.specs.Prelude.{Err}
-use Rattle.attempts.specs.declared.Value.TheVariants as counted
 use Rattle.cube.specs.declared.moves.Side.TheVariants.{U, R, F}
 use Rattle.cube.specs.declared.moves.Axis.TheVariants.{X}
 use Rattle.cube.specs.declared.moves.Kind.TheVariants.{Face, Block, Turn}
 use Rattle.cube.specs.declared.moves.Quarter.TheVariants.{Clockwise, Half, Anticlockwise}
-use Rattle.formats.specs.declared.advance.Advance.{Advance}
+use Rattle.formats.specs.declared.{advance.Advance.Advance, events.Format.Format}
 use Rattle.formats.specs.declared.advance.Advance.TheVariants.{Final, Top, Percent}
 use Rattle.formats.specs.declared.events.Event.TheVariants.{Cube3, Cube7, FewestMoves, MultiBlind}
-use Rattle.formats.specs.declared.events.Format.{Format}
 use Rattle.formats.specs.declared.events.Format.TheVariants.{Ao5, Mo3, Bo3}
-use Rattle.texts.specs.declared.command.Command.{Command}
+use Rattle.texts.specs.declared.command.Command.{Command, TheVariants.Fix, TheVariants.Cancel}
 use Rattle.texts.specs.declared.command.Command.TheVariants.{Register, Open, Enter, Scramble}
 use Rattle.texts.specs.declared.command.Command.TheVariants.{Attempt, Correct, Strike, SetAdvance}
 use Rattle.texts.specs.declared.command.Command.TheVariants.{Close, SetEdition, Rename, SetRound}
-use Rattle.texts.specs.declared.command.Command.TheVariants.{Rescramble, Withdraw, Reopen}
-use Rattle.texts.specs.declared.command.Command.TheVariants.{Card, Fix, Cancel}
-use Rattle.texts.specs.declared.command.Settings.{Settings}
-use Rattle.texts.specs.declared.command.Entered.TheVariants as entered
-use Rattle.texts.specs.declared.reading.CommandFault.{CommandFault}
-use Rattle.texts.specs.declared.reading.CommandFault.TheVariants as fault
+use Rattle.texts.specs.declared.command.Command.TheVariants.{Rescramble, Withdraw, Reopen, Card}
+use Rattle.texts.specs.declared.{command.Settings.Settings, reading.CommandFault.CommandFault}
 use Rattle.texts.specs.Editions.{edition_of, is_spelled_in}
 use Rattle.texts.specs.Fields.{attempt_entry, card_entry, move_by, round_id}
-use Rattle.texts.specs.Reading.{command_of, told}
-use Rattle.texts.specs.Spelling.{spelling, told_spelling}
+use Rattle.texts.specs.{Reading.command_of, Reading.told, Spelling.spelling, Spelling.told_spelling}
+use Rattle.attempts.specs.declared.Value.TheVariants as counted
+use Rattle.texts.specs.declared.command.Entered.TheVariants as entered
+use Rattle.texts.specs.declared.reading.CommandFault.TheVariants as fault
 
 abbrev pub settings_of : Format → Option (ℕ × ℕ) → Option ℕ → Advance → Settings
 settings_of form cutoff limit advance =

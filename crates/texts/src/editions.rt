@@ -2,11 +2,9 @@
 
 ghost use Rattle.std.specs.Prelude.{◌≡◌, fold, map};
 ghost use Rattle.std.specs.List.{list_all};
-ghost use Rattle.texts.specs.Editions.{entered_edition, is_named_in};
-ghost use Rattle.texts.specs.Editions.{is_spelled_in, later_by, remark_edition};
-ghost use Rattle.texts.specs.Parts.{lent};
+ghost use Rattle.texts.specs.Editions.{entered_edition, is_named_in, is_spelled_in, later_by};
+ghost use Rattle.texts.specs.{Editions.remark_edition, Parts.lent, WorkedTexts.ReadsWorkedTexts};
 ghost use Rattle.texts.specs.Table.{row_of, since_in};
-ghost use Rattle.texts.specs.WorkedTexts.{ReadsWorkedTexts};
 
 use crate::command::{Entered, RemarkedCommand};
 use crate::names::is_name_in;

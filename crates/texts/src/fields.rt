@@ -1,12 +1,11 @@
 //! The fields of commands, each from its bytes.
 
-ghost use Rattle.std.specs.Prelude.{◌≡◌, ◌==◌, ◌<◌, length, option_map, IfOk, IfSome, OnErr};
-ghost use Rattle.std.specs.Prelude.{◌-◌, position};
+ghost use Rattle.std.specs.Prelude.{◌≡◌, ◌==◌, ◌<◌, length, option_map, IfOk, IfSome, OnErr, ◌-◌};
+ghost use Rattle.std.specs.Prelude.{position, map, option_and_then};
 ghost use Rattle.texts.specs.Fields.{cut, number_between, cutoff_of, two_numbers, limit_of};
 ghost use Rattle.texts.specs.Fields.{percent_of, advance_of, moves_of, time_of, multi_of, cubes_of};
 ghost use Rattle.texts.specs.Fields.{entered_of, counted_of, was_of, stays_or_of, enters_later};
 ghost use Rattle.texts.specs.Fields.{now_of, at_most_5, all_of, cut_remark};
-ghost use Rattle.std.specs.Prelude.{map, option_and_then};
 ghost use Rattle.std.specs.List.{slice_split};
 ghost use Rattle.texts.specs.model.Returned.{MayBeSolution};
 

@@ -1,11 +1,9 @@
 //! The names of competitors, as the editions spell them.
 
 ghost use Rattle.std.specs.Prelude.{◌≡◌, ◌&&◌};
-ghost use Rattle.std.specs.List.{list_all};
-ghost use Rattle.std.specs.Str.{is_utf8, chars};
-ghost use Rattle.texts.specs.Names.{has_single_spaces, is_name_byte, is_early_name};
-ghost use Rattle.texts.specs.Names.{is_seen, is_name_character, is_clear_name, is_name_in, is_name};
-ghost use Rattle.texts.specs.Names.{is_remark};
+ghost use Rattle.std.specs.{List.list_all, Str.is_utf8, Str.chars};
+ghost use Rattle.texts.specs.Names.{has_single_spaces, is_early_name, is_name_character, is_remark};
+ghost use Rattle.texts.specs.Names.{is_name_byte, is_seen, is_clear_name, is_name_in, is_name};
 
 use ucd_category::GeneralCategory;
 

@@ -1,10 +1,8 @@
 //! Numbers in decimal.
 
 ghost use Rattle.std.specs.Prelude.{◌≡◌, ◌≤◌, ◌<◌, ◌↔◌, ℕ, Some, IfSome, decimal, length, true};
-ghost use Rattle.std.specs.Char.{is_ascii_digit};
-ghost use Rattle.std.specs.List.{list_all};
-ghost use Rattle.texts.specs.Numerals.{digits_value};
-ghost use Rattle.texts.specs.model.Numeral.{is_numeral};
+ghost use Rattle.std.specs.{Char.is_ascii_digit, List.list_all};
+ghost use Rattle.texts.specs.{Numerals.digits_value, model.Numeral.is_numeral};
 ghost use Rattle.texts.specs.Fields.{number_between};
 
 /// Whether all bytes are decimal digits.

@@ -1,10 +1,9 @@
 //! Commands as their tags and the values of their fields.
 
 ghost use Rattle.std.specs.Prelude.{◌≡◌, [], ◌∷◌, map};
-ghost use Rattle.texts.specs.Parts.{card_values, entry_values, in_round, lent, parts};
-ghost use Rattle.texts.specs.Parts.{settings_values};
+ghost use Rattle.texts.specs.Parts.{card_values, entry_values, in_round, lent, settings_values};
+ghost use Rattle.texts.specs.{Parts.parts, declared.value.FieldValue.TheVariants.Name as NameOf};
 ghost use Rattle.texts.specs.declared.value.FieldValue.TheVariants.{Number as NumberOf};
-ghost use Rattle.texts.specs.declared.value.FieldValue.TheVariants.{Name as NameOf};
 ghost use Rattle.texts.specs.declared.value.FieldValue.TheVariants.{Event as EventOf};
 ghost use Rattle.texts.specs.declared.value.FieldValue.TheVariants.{Format as FormatOf};
 ghost use Rattle.texts.specs.declared.value.FieldValue.TheVariants.{Cutoff as CutoffOf};

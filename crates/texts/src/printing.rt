@@ -1,14 +1,12 @@
 //! Commands as texts.
 
-ghost use Rattle.std.specs.Prelude.{◌≡◌, ◌++◌, IfOk, OnOk};
+ghost use Rattle.std.specs.Prelude.{◌≡◌, ◌++◌, IfOk, OnOk, map};
 ghost use Rattle.cube.specs.notation.Notation.{spelling as moves_text};
-ghost use Rattle.texts.specs.Parts.{lent};
+ghost use Rattle.texts.specs.{Parts.lent, declared.command.Entered.TheVariants.Time as TimeOf};
 ghost use Rattle.texts.specs.Spelling.{cutoff_text, limit_text, advance_text, entered_text};
-ghost use Rattle.texts.specs.Spelling.{counted_text, was_text, stays_or_text, now_text};
-ghost use Rattle.texts.specs.Spelling.{spelling, told_spelling, value_text, values_text};
+ghost use Rattle.texts.specs.Spelling.{counted_text, was_text, stays_or_text, now_text, spelling};
+ghost use Rattle.texts.specs.Spelling.{told_spelling, value_text, values_text};
 ghost use Rattle.texts.specs.Table.{row_of, word_in};
-ghost use Rattle.std.specs.Prelude.{map};
-ghost use Rattle.texts.specs.declared.command.Entered.TheVariants.{Time as TimeOf};
 ghost use Rattle.texts.specs.declared.command.Entered.TheVariants.{Solution as SolutionOf};
 ghost use Rattle.texts.specs.declared.command.Entered.TheVariants.{Multi as MultiOf};
 

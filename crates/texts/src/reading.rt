@@ -1,15 +1,13 @@
 //! Commands from their texts.
 
-ghost use Rattle.std.specs.Prelude.{◌≡◌, ◌<◌, ◌≤◌, ◌↔◌, ◌+◌, true, false, nat_lt, length};
-ghost use Rattle.std.specs.Prelude.{Option, Some, None, IfOk, OnErr};
-ghost use Rattle.std.specs.Option.{option_copied};
+ghost use Rattle.std.specs.Prelude.{◌≡◌, ◌<◌, ◌≤◌, ◌↔◌, ◌+◌, true, false, Some, None, IfOk, OnErr};
+ghost use Rattle.std.specs.{Prelude.nat_lt, Prelude.length, Prelude.Option, Option.option_copied};
 ghost use Rattle.texts.specs.Spelling.{IsFitTold, standing, told_spelling};
-ghost use Rattle.texts.specs.Fields.{cut};
+ghost use Rattle.texts.specs.{Fields.cut, Reading.SpellsShort};
 ghost use Rattle.texts.specs.Table.{is_rest_last, is_word, row_named};
-ghost use Rattle.texts.specs.Reading.{Gives, kept_field, ReadsAs, value_of, field_of};
-ghost use Rattle.texts.specs.Reading.{next_of, values_of, before_remark, with_remark, by_row};
-ghost use Rattle.texts.specs.Reading.{command_of, ReadsWhatIsSpelled, SpellsWhatIsRead};
-ghost use Rattle.texts.specs.Reading.{SpellsOneCommand, SpellsShort};
+ghost use Rattle.texts.specs.Reading.{Gives, kept_field, ReadsAs, value_of, field_of, next_of};
+ghost use Rattle.texts.specs.Reading.{values_of, before_remark, with_remark, by_row, command_of};
+ghost use Rattle.texts.specs.Reading.{ReadsWhatIsSpelled, SpellsWhatIsRead, SpellsOneCommand};
 ghost use Rattle.texts.specs.model.Returned.{GivesNext, GivesRemark, GivesValues, TakesForValue};
 ghost use Rattle.texts.specs.declared.command.RemarkedCommand.{RemarkedCommand as Told};
 ghost use Rattle.texts.specs.declared.reading.CommandFault.TheVariants.{NoMemory as OutOfMemory};

@@ -1,9 +1,7 @@
 -- How long pauses are.
 use Rattle.std.proofs.Common.{◌≡◌, ◌⊎◌, ℕ, zero, suc, ◌+◌, ◌-◌, ◌*◌, ◌/◌, ◌≤◌, ◌<◌, inl, inr, refl}
-use Rattle.std.proofs.Common.{arith, true}
-use Rattle.std.specs.Prelude.{min}
-use Rattle.std.proofs.Math.Nat.{mul-le-mul_right, div-mul-le_self}
-use Rattle.std.proofs.lemmas.Nat.{le-div}
+use Rattle.std.proofs.{Common.arith, Common.true, Math.Nat.mul-le-mul_right, lemmas.Nat.le-div}
+use Rattle.std.{specs.Prelude.min, proofs.Math.Nat.div-mul-le_self}
 use Rattle.ticking.specs.Ticking.{IsPeriod, IsDesk, Ticking, slot, first_pause, pause}
 use Rattle.ticking.specs.Laws.{AreBounded}
 

@@ -3,8 +3,7 @@ use Rattle.std.proofs.Common.{◌≡◌, ℕ, ◌*◌, ◌≤◌, refl, arith, B
 use Rattle.std.specs.Prelude.{◌↔◌, min, not, ◌&&◌, ◌||◌, nat_le, IsTrue, if◌then◌else◌}
 use Rattle.std.proofs.lemmas.Bool.Decides.{nat_tests}
 use Rattle.ticking.specs.Ticking.{Ticking, Look, pause, due_at, waits, is_new, is_due, counts_from}
-use Rattle.ticking.specs.Ticking.{after, after_all}
-use Rattle.ticking.specs.Laws.{IsQuiet}
+use Rattle.ticking.specs.{Ticking.after, Ticking.after_all, Laws.IsQuiet}
 
 -- another ticker of the same desk whose time counts the same
 pub record IsSame (t u : Ticking) : Type 0 where

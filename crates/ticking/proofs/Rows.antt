@@ -5,9 +5,7 @@ use Rattle.std.specs.Prelude.{min, not, ◌&&◌, ◌||◌, nat_lt, IsTrue, IsFa
 use Rattle.std.proofs.lemmas.Bool.Decides.{nat_tests}
 use Rattle.ticking.specs.Ticking.{Ticking, first_pause, due_at, slot, is_new, is_due, after}
 use Rattle.ticking.specs.Laws.{due_look, tick_at, HaveBegun, AreApart}
-use Rattle.ticking.proofs.Pauses.{IsTicker}
-use Rattle.ticking.proofs.Quiet.{due_exactly}
-use Rattle.ticking.proofs.Ticks.{due_times}
+use Rattle.ticking.proofs.{Pauses.IsTicker, Quiet.due_exactly, Ticks.due_times}
 use Rattle.ticking.proofs.Spread.{IsTwice, spread, added}
 
 not_above : (n : ℕ) → nat_lt n n ≡ false

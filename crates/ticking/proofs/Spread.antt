@@ -1,8 +1,7 @@
 -- Desks whose time counts from one moment are due at moments that are apart.
 use Rattle.std.proofs.Common.{◌≡◌, ◌⊎◌, ℕ, ◌+◌, ◌-◌, ◌*◌, ◌≤◌, ◌<◌, inl, inr, refl, sym, arith}
 use Rattle.std.proofs.Common.{Bool, true, false}
-use Rattle.std.proofs.lemmas.Bool.{cases_lt}
-use Rattle.std.proofs.Math.Nat.{mul-le-mul_right, mul-le-mul_left}
+use Rattle.std.proofs.{lemmas.Bool.cases_lt, Math.Nat.mul-le-mul_right, Math.Nat.mul-le-mul_left}
 use Rattle.ticking.specs.Ticking.{IsDesk, Ticking, slot, first_pause, pause}
 use Rattle.ticking.specs.Laws.{AreApart, AreFellows, AreDueApart}
 use Rattle.ticking.proofs.Pauses.{IsTicker, IsPower, power_least, product_least, within, slot_least}

@@ -1,10 +1,8 @@
 -- Ticks come where nothing happens.
-use Rattle.std.proofs.Common.{◌≡◌, ℕ, ◌+◌, ◌*◌, ◌≤◌, inl, inr, refl, arith}
-use Rattle.std.proofs.Common.{Bool, true, false, List, [], ◌∷◌, ◌++◌}
+use Rattle.std.proofs.Common.{◌≡◌, ℕ, ◌+◌, ◌*◌, ◌≤◌, inl, inr, refl, arith, Bool, [], ◌∷◌, ◌++◌}
+use Rattle.std.proofs.{Common.true, lemmas.Bool.Decides.nat_tests, Math.Nat.mul-le-mul_right}
+use Rattle.std.{proofs.Common.false, proofs.Common.List, specs.List.AllByRecursion}
 use Rattle.std.specs.Prelude.{max, not, ◌&&◌, ◌||◌, nat_lt}
-use Rattle.std.specs.List.{AllByRecursion}
-use Rattle.std.proofs.lemmas.Bool.Decides.{nat_tests}
-use Rattle.std.proofs.Math.Nat.{mul-le-mul_right}
 use Rattle.ticking.specs.Ticking.{Ticking, Look, due_at, first_pause, is_new, is_due, after, waits}
 use Rattle.ticking.specs.Laws.{IsStill, NothingHappens, TakesTick}
 use Rattle.ticking.proofs.Pauses.{IsTicker, power_most}

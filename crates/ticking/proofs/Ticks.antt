@@ -1,11 +1,10 @@
 -- When Ticks are taken, looked at whenever.
-use Rattle.std.proofs.Common.{◌≡◌, ◌⊎◌, ℕ, ◌+◌, ◌*◌, ◌≤◌, ◌<◌, inl, inr, refl, ap, ◌∙◌, arith}
-use Rattle.std.proofs.Common.{Bool, true, false, List, [], ◌∷◌, ◌++◌}
+use Rattle.std.proofs.Common.{◌≡◌, ◌⊎◌, ℕ, ◌+◌, ◌*◌, ◌≤◌, ◌<◌, inl, inr, refl, ap, ◌∙◌, arith, Bool}
+use Rattle.std.proofs.Common.{true, false, List, [], ◌∷◌, ◌++◌}
 use Rattle.std.specs.Prelude.{◌↔◌, min, not, ◌&&◌, ◌||◌, IsTrue, if◌then◌else◌}
-use Rattle.ticking.specs.Ticking.{Ticking, Look, pause, due_at, waits, is_new, is_due}
-use Rattle.ticking.specs.Ticking.{after, after_all, first_pause, left}
-use Rattle.ticking.specs.Laws.{IsFirst, CountsFrom, IsQuiet, IsInTime, AreBounded}
-use Rattle.ticking.specs.Laws.{SeesNothingNew, TakesTick, GoesOn}
+use Rattle.ticking.specs.Ticking.{Ticking, Look, pause, due_at, waits, is_new, is_due, after, left}
+use Rattle.ticking.specs.{Ticking.after_all, Ticking.first_pause, Laws.TakesTick, Laws.GoesOn}
+use Rattle.ticking.specs.Laws.{IsFirst, CountsFrom, IsQuiet, IsInTime, AreBounded, SeesNothingNew}
 use Rattle.ticking.proofs.Pauses.{IsTicker, bounded, first_most, doubled}
 use Rattle.ticking.proofs.Kept.{kept, counting_ticker, counting_since}
 use Rattle.ticking.proofs.Quiet.{IsSame, same_after, same_after_all, same_pause, due_exactly}

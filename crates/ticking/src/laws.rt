@@ -1,11 +1,9 @@
 //! Laws of tickers, whatever they are shown.
 
 ghost use Rattle.std.specs.Prelude.{ℕ, Bool, List};
-ghost use Rattle.ticking.specs.Ticking.{Ticking, Look};
-ghost use Rattle.ticking.specs.Laws.{PausesAreBounded, BacksOff, FallsBack, KeepsTime};
-ghost use Rattle.ticking.specs.Laws.{TicksInTime, TicksWhereNothingHappens, Wakes, AreSpread};
-ghost use Rattle.ticking.specs.Laws.{StaySpread};
-ghost use Rattle.ticking.specs.Worked.{WorksTicker};
+ghost use Rattle.ticking.specs.{Ticking.Ticking, Ticking.Look, Worked.WorksTicker};
+ghost use Rattle.ticking.specs.Laws.{PausesAreBounded, BacksOff, FallsBack, KeepsTime, TicksInTime};
+ghost use Rattle.ticking.specs.Laws.{TicksWhereNothingHappens, Wakes, AreSpread, StaySpread};
 
 /// Where commands wait, a pause is at least one period and less than 32; where none waits, it is at
 /// least 10 periods and less than 20.

@@ -1,33 +1,51 @@
--- No more numbers are registered for an event than persons.
-use Rattle.std.proofs.Common.{◌≡◌, ◌≤◌, ◌<◌, ◌+◌, ◌&&◌, ◌||◌, ◌==◌, ℕ, zero, suc, Bool, true, false}
-use Rattle.std.proofs.Common.{cond, List, [], ◌∷◌, ◌++◌, Option, Some, None, refl, ap, sym, ◌∙◌}
-use Rattle.std.proofs.Common.{subst}
-use Rattle.std.proofs.Common.{arith, add-one, nat_le, eqb-true, filter}
-use Rattle.std.specs.Prelude.{count_by, find}
-use Rattle.std.specs.List.{list_any}
-use Rattle.std.specs.Option.{option_to_list}
-use Rattle.std.proofs.lemmas.Bool.{false≢true}
-use Rattle.std.proofs.lemmas.Bool.Decides.{nat_tests}
-use Rattle.std.proofs.lemmas.List.Sums.{sum_by-append}
-use Rattle.std.proofs.lemmas.List.Elements.{filter-append}
-use Rattle.std.proofs.lemmas.List.Folds.{list_any-append}
+-- The numbers from 1 to a last one: commands, a number at a time, and no more numbers are
+-- registered for an event than persons.
+use Rattle.std.proofs.Common.{◌≡◌, ◌+◌, ℕ, zero, suc, List, [], ◌∷◌, ◌++◌, refl, ap, sym, ◌∙◌}
+use Rattle.std.proofs.Common.{append_assoc, arith, add-one, ◌≤◌, ◌<◌, ◌&&◌, ◌||◌, ◌==◌, Bool, true}
+use Rattle.std.proofs.Common.{false, cond, Some, subst, nat_le, eqb-true, filter}
+use Rattle.wcif.proofs.{Numbered.count_push, Numbered.zero_more, Found.both_left, Found.one_number}
+use Rattle.std.proofs.Math.Bool.{and-true, and-false, or-false}
+use Rattle.std.specs.{Prelude.flat_map, List.range_with_len, List.list_any, Option.option_to_list}
+use Rattle.std.{specs.Prelude.count_by, specs.Prelude.find, proofs.lemmas.Bool.Decides.nat_tests}
+use Rattle.std.proofs.lemmas.{Grind.flat_map-append, List.Elements.filter-append}
+use Rattle.std.proofs.lemmas.List.{Folds.list_any-append, append-nil, Sums.sum_by-append}
+use Rattle.texts.specs.declared.command.Command.{Command}
+use Rattle.wcif.specs.{Commands.numbers_to, Events.enters, Laws.is_entrant, Persons.has_number}
 use Rattle.serde_json.specs.Data.{Data}
 use Rattle.formats.specs.declared.events.Event.{Event}
-use Rattle.wcif.specs.Commands.{numbers_to}
-use Rattle.wcif.specs.Events.{enters}
-use Rattle.wcif.specs.Laws.{is_entrant}
-use Rattle.wcif.specs.Persons.{is_number, number_of, has_number}
-use Rattle.wcif.proofs.Distinct.{both_left, both_right}
-use Rattle.wcif.proofs.SetUp.{numbers_none, numbers_more}
 
-zero_more : (n : ℕ) → 0 + n ≡ n
-zero_more n = omega arith
+range_more : (a n : ℕ) → range_with_len a (suc n) ≡ range_with_len a n ++ (a + n) ∷ []
+range_more a zero = ap (λ (x : ℕ). x ∷ []) (omega arith)
+range_more a (suc n) =
+    ap (λ more. a ∷ more)
+    (range_more (a + 1) n ∙ ap (λ (x : ℕ). range_with_len (a + 1) n ++ x ∷ []) (omega arith))
 
-count_push : {A : Type 0} (p : A → Bool) (xs : List A) (x : A)
-    → count_by p (xs ++ x ∷ []) ≡ count_by p xs + cond (p x) 1 0
-count_push p xs x =
-    sum_by-append (λ y. cond (p y) 1 0) xs (x ∷ [])
-    ∙ ap (λ (n : ℕ). count_by p xs + n) (zero_more (cond (p x) 1 0))
+pub numbers_none : numbers_to 0 ≡ []
+unfolding numbers_to
+numbers_none = refl
+
+pub numbers_more : (n : ℕ) → numbers_to (n + 1) ≡ numbers_to n ++ (n + 1) ∷ []
+unfolding numbers_to
+numbers_more n =
+    rw add-one (range_more 1 n ∙ ap (λ (x : ℕ). range_with_len 1 n ++ x ∷ []) (omega arith))
+
+-- what was added up to a number, and what is added for the next one
+pub flat_more : {A : Type 0} (f : ℕ → List A) (k : ℕ)
+    → flat_map f (numbers_to (k + 1)) ≡ flat_map f (numbers_to k) ++ f (k + 1)
+flat_more f k =
+    ap (flat_map f) (numbers_more k) ∙ flat_map-append f (numbers_to k) ((k + 1) ∷ [])
+    ∙ ap (λ more. flat_map f (numbers_to k) ++ more) (append-nil (f (k + 1)))
+
+-- what was added up to a number, and what is added for the next one
+pub next_number : (f : ℕ → List Command) (n : ℕ) (old mid new : List Command)
+    → mid ≡ old ++ flat_map f (numbers_to n) → new ≡ mid ++ f (n + 1)
+    → new ≡ old ++ flat_map f (numbers_to (n + 1))
+next_number f n old mid new so_far next =
+    rw (next, so_far, flat_more f n) (append_assoc old (flat_map f (numbers_to n)) (f (n + 1)))
+
+pub first_number : (f : ℕ → List Command) (old : List Command)
+    → old ≡ old ++ flat_map f (numbers_to 0)
+first_number f old = rw numbers_none (sym (append-nil old))
 
 count_cons : {A : Type 0} (p : A → Bool) (x : A) (xs : List A)
     → count_by p (x ∷ xs) ≡ cond (p x) 1 0 + count_by p xs
@@ -44,7 +62,8 @@ count_none p none (x ∷ xs) =
 
 pub count_next : (p : ℕ → Bool) (k : ℕ)
     → count_by p (numbers_to (k + 1)) ≡ count_by p (numbers_to k) + cond (p (k + 1)) 1 0
-count_next p k = ap (count_by p) (numbers_more k) ∙ count_push p (numbers_to k) (k + 1)
+count_next p k =
+    ap (count_by p) (numbers_more k) ∙ count_push p (numbers_to k) (k + 1) (p (k + 1)) refl
 
 none_count : (p : ℕ → Bool) → count_by p (numbers_to 0) ≡ 0
 none_count p = ap (count_by p) numbers_none
@@ -54,8 +73,7 @@ once : (p : ℕ → Bool) (m : ℕ) → ((n : ℕ) → p n ≡ true → m ≡ n)
     → count_by p (numbers_to k) ≤ cond (nat_le m k) 1 0
 once p m only zero = rw (none_count p) (omega arith)
 once p m only (suc k) =
-    subst (λ n. count_by p (numbers_to n) ≤ cond (nat_le m n) 1 0) (add-one k)
-    (rw (count_next p k)
+    subst (λ n. count_by p (numbers_to n) ≤ cond (nat_le m n) 1 0) (add-one k) (rw (count_next p k)
     (step (p (k + 1)) (nat_le m k) (nat_le m (k + 1)) refl refl refl (once p m only k)))
   where
     step : (a b c : Bool) → p (k + 1) ≡ a → nat_le m k ≡ b → nat_le m (k + 1) ≡ c
@@ -65,40 +83,17 @@ once p m only (suc k) =
         let same : m ≡ k + 1 = only (k + 1) is in
         let less : m ≤ k = grind (arith, nat_tests) in
         absurd (omega arith)
-    step true false true is low high h = omega arith
     step true false false is low high h =
         let same : m ≡ k + 1 = only (k + 1) is in
         let more : k + 1 < m = grind (arith, nat_tests) in
         absurd (omega arith)
-    step false true true is low high h = omega arith
-    step false true false is low high h =
-        let less : m ≤ k = grind (arith, nat_tests) in
-        let more : k + 1 < m = grind (arith, nat_tests) in
-        absurd (omega arith)
-    step false false true is low high h = omega arith
-    step false false false is low high h = omega arith
-
--- a person has one number at most
-one_number : (x : Data) → (m : ℕ) × ((n : ℕ) → has_number n x ≡ true → m ≡ n)
-one_number x = step (number_of x) refl
-  where
-    step : (o : Option ℕ) → number_of x ≡ o → (m : ℕ) × ((n : ℕ) → has_number n x ≡ true → m ≡ n)
-    step None is =
-        (0, λ n has. absurd (false≢true (sym (ap (is_number n) is) ∙ both_right _ _ has)))
-    step (Some m) is =
-        (m, λ n has. eqb-true m n (sym (ap (is_number n) is) ∙ both_right _ _ has))
-
-and_false : (a : Bool) → (a && false) ≡ false
-and_false true = refl
-and_false false = refl
+    step false true false is low high h = absurd (grind (arith, nat_tests))
+    step _ _ _ is low high h = omega arith
 
 person_once : (e : Event) (x : Data) (k : ℕ)
     → count_by (λ n. has_number n x && enters e x) (numbers_to k) ≤ cond (enters e x) 1 0
 person_once e x k = step (enters e x)
   where
-    not_both : (n : ℕ) → (has_number n x && false) ≡ false
-    not_both n = and_false (has_number n x)
-
     most : (b : Bool) → cond b 1 0 ≤ 1
     most true = omega arith
     most false = omega arith
@@ -111,7 +106,9 @@ person_once e x k = step (enters e x)
         let least = most (nat_le one.0 k) in
         omega arith
     step false =
-        rw (count_none (λ n. has_number n x && false) not_both (numbers_to k)) (omega arith)
+        rw
+        (count_none (λ n. has_number n x && false) (λ n. and-false (has_number n x)) (numbers_to k))
+        (omega arith)
 
 -- one more person in front adds what he alone adds, at most
 person_adds : (e : Event) (x : Data) (xs : List Data) (ns : List ℕ)
@@ -152,70 +149,37 @@ no_more (x ∷ xs) e k =
 
 -- the numbers that pass, of those up to k, and one more
 pub filter_next : (p : ℕ → Bool) (k : ℕ)
-    → filter p (numbers_to (k + 1))
-    ≡ filter p (numbers_to k) ++ cond (p (k + 1)) ((k + 1) ∷ []) []
+    → filter p (numbers_to (k + 1)) ≡ filter p (numbers_to k) ++ cond (p (k + 1)) ((k + 1) ∷ []) []
 filter_next p k =
     ap (filter p) (numbers_more k) ∙ filter-append p (numbers_to k) ((k + 1) ∷ [])
 
-or_both : (a b : Bool) → a ≡ false → b ≡ false → (a || b) ≡ false
-or_both a b first second = rw (first, second) refl
-
--- a number above k is not among those up to k
-pub not_among : (p : ℕ → Bool) (n k : ℕ) → k < n
-    → list_any (λ m. n == m) (filter p (numbers_to k)) ≡ false
-not_among p n zero above = ap (λ ns. list_any (λ m. n == m) (filter p ns)) numbers_none
-not_among p n (suc k) above =
-    subst (λ j. list_any (λ m. n == m) (filter p (numbers_to j)) ≡ false) (add-one k)
-    (ap (list_any (λ m. n == m)) (filter_next p k)
+-- a number is among those up to k that pass where it is one of them and passes
+pub among_passing : (p : ℕ → Bool) (n k : ℕ) → 1 ≤ n → (c : Bool) → nat_le n k ≡ c
+    → list_any (λ m. n == m) (filter p (numbers_to k)) ≡ (c && p n)
+among_passing p n zero low true high = absurd (grind (arith, nat_tests))
+among_passing p n zero low false high =
+    ap (λ ns. list_any (λ m. n == m) (filter p ns)) numbers_none
+among_passing p n (suc k) low c high =
+    subst (λ j. (c : Bool) → nat_le n j ≡ c
+    → list_any (λ m. n == m) (filter p (numbers_to j)) ≡ (c && p n)) (add-one k)
+    (λ d less. ap (list_any (λ m. n == m)) (filter_next p k)
     ∙ list_any-append (λ m. n == m) (filter p (numbers_to k)) (cond (p (k + 1)) ((k + 1) ∷ []) [])
-    ∙ or_both _ _ (not_among p n k (omega arith))
-    (step (p (k + 1)) (n == k + 1) refl))
+    ∙ ap (λ b. b || list_any (λ m. n == m) (cond (p (k + 1)) ((k + 1) ∷ []) []))
+    (among_passing p n k low (nat_le n k) refl) ∙ step (n == k + 1) (nat_le n k) d refl refl less) c
+    high
   where
-    step : (b c : Bool) → (n == k + 1) ≡ c
-        → list_any (λ m. n == m) (cond b ((k + 1) ∷ []) []) ≡ false
-    step true true is = let same : n ≡ k + 1 = eqb-true n (k + 1) is in absurd (omega arith)
-    step true false is = rw is refl
-    step false c is = refl
-
--- a number up to k is among those that pass where it passes
-pub among_passing : (p : ℕ → Bool) (n k : ℕ) → 1 ≤ n → n ≤ k
-    → list_any (λ m. n == m) (filter p (numbers_to k)) ≡ p n
-among_passing p n zero low high = absurd (omega arith)
-among_passing p n (suc k) low high =
-    subst (λ j. list_any (λ m. n == m) (filter p (numbers_to j)) ≡ p n) (add-one k)
-    (ap (list_any (λ m. n == m)) (filter_next p k)
-    ∙ list_any-append (λ m. n == m) (filter p (numbers_to k)) (cond (p (k + 1)) ((k + 1) ∷ []) [])
-    ∙ step (n == k + 1) refl (λ less. among_passing p n k low less))
-  where
-    last : (b : Bool) → list_any (λ m. n == m) (cond b ((k + 1) ∷ []) [])
-        ≡ (b && (n == k + 1 || false))
-    last true = refl
+    last : (q : Bool) → list_any (λ m. n == m) (cond q ((k + 1) ∷ []) []) ≡ (q && n == k + 1)
+    last true = or-false (n == k + 1)
     last false = refl
 
-    here : (a b : Bool) → a ≡ false → (a || (b && (true || false))) ≡ b
-    here a true none = rw none refl
-    here a false none = rw none refl
-
-    before : (a b : Bool) → (a || (b && (false || false))) ≡ a
-    before true b = refl
-    before false true = refl
-    before false false = refl
-
-    step : (c : Bool) → (n == k + 1) ≡ c
-        → (n ≤ k → list_any (λ m. n == m) (filter p (numbers_to k)) ≡ p n)
-        → (list_any (λ m. n == m) (filter p (numbers_to k))
-        || list_any (λ m. n == m) (cond (p (k + 1)) ((k + 1) ∷ []) [])) ≡ p n
-    step true is earlier =
-        let same : n ≡ k + 1 = eqb-true n (k + 1) is in
-        ap (λ b. list_any (λ m. n == m) (filter p (numbers_to k)) || b) (last (p (k + 1)))
-        ∙ ap
-        (λ c. list_any (λ m. n == m) (filter p (numbers_to k)) || (p (k + 1) && (c || false))) is
-        ∙ here (list_any (λ m. n == m) (filter p (numbers_to k))) (p (k + 1))
-        (not_among p n k (omega arith))
-        ∙ ap p (sym same)
-    step false is earlier =
-        ap (λ b. list_any (λ m. n == m) (filter p (numbers_to k)) || b) (last (p (k + 1)))
-        ∙ ap
-        (λ c. list_any (λ m. n == m) (filter p (numbers_to k)) || (p (k + 1) && (c || false))) is
-        ∙ before (list_any (λ m. n == m) (filter p (numbers_to k))) (p (k + 1))
-        ∙ earlier (grind (arith, nat_tests))
+    step : (a b c : Bool) → (n == k + 1) ≡ a → nat_le n k ≡ b → nat_le n (k + 1) ≡ c
+        → ((b && p n) || list_any (λ m. n == m) (cond (p (k + 1)) ((k + 1) ∷ []) [])) ≡ (c && p n)
+    step true false true is low high =
+        let same : k + 1 ≡ n = sym (eqb-true n (k + 1) is) in
+        last (p (k + 1)) ∙ ap (λ b. p (k + 1) && b) is ∙ and-true (p (k + 1)) ∙ ap p same
+    step false true true is low high =
+        ap (λ b. p n || b) (last (p (k + 1)) ∙ ap (λ b. p (k + 1) && b) is ∙ and-false (p (k + 1)))
+        ∙ or-false (p n)
+    step false false false is low high =
+        last (p (k + 1)) ∙ ap (λ b. p (k + 1) && b) is ∙ and-false (p (k + 1))
+    step _ _ _ is low high = absurd (grind (arith, nat_tests))

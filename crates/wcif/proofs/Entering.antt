@@ -1,42 +1,109 @@
--- A meet accepts the entries of a person of an import, and then has the person in those rounds.
-use Rattle.std.proofs.Common.{◌≡◌, ◌≤◌, ◌<◌, ◌||◌, ◌==◌, ℕ, Bool, true, false, not, cond, List}
-use Rattle.std.proofs.Common.{[], ◌∷◌, ◌++◌, Option, Some, None, is_some, refl, ap, sym, ◌∙◌, subst}
-use Rattle.std.proofs.Common.{arith, nat_le, length, map}
-use Rattle.std.specs.Prelude.{flat_map, count_by, unwrap_or}
-use Rattle.std.specs.List.{list_any}
-use Rattle.std.specs.Option.{option_map, option_and_then, option_to_list}
-use Rattle.std.proofs.lemmas.Bool.{false≢true}
-use Rattle.std.proofs.lemmas.Bool.Decides.{nat_tests}
-use Rattle.std.proofs.lemmas.List.{map-append, length-map}
-use Rattle.std.proofs.lemmas.List.Folds.{list_any-append}
-use Rattle.std.proofs.lemmas.Slice.Eq.{bytes_eq-Decides}
+-- A meet accepts the entries of a person of an import, whose events are held, each once, and then
+-- has the person in those rounds.
+use Rattle.std.proofs.Common.{◌≡◌, ◌≤◌, ℕ, Bool, true, false, not, cond, List, [], ◌∷◌, Option}
+use Rattle.std.proofs.Common.{Some, None, refl, ap, sym, ◌∙◌, arith, nat_lt, length, ◌<◌, ◌||◌}
+use Rattle.std.proofs.Common.{◌==◌, ◌++◌, is_some, subst, nat_le, map}
+use Rattle.wcif.proofs.Opening.{by_event, is_late, same_itself, not_same, in_time}
+use Rattle.std.{specs.Prelude.codes, specs.List.list_any, proofs.Math.Bool.or-false}
+use Rattle.std.specs.{Prelude.count_by, Prelude.find, Option.option_and_then, Option.option_map}
+use Rattle.std.proofs.lemmas.{Bool.Decides.nat_tests, Slice.Eq.bytes_eq-Decides}
 use Rattle.serde_json.specs.Data.{Data}
-use Rattle.formats.specs.declared.events.Event.{Event}
-use Rattle.formats.specs.Events.{event_edition, event_name, same_event, most_entrants}
-use Rattle.formats.proofs.SameEvent.{same_event-equal}
+use Rattle.formats.specs.{declared.events.Event.Event, Events.most_entrants}
+use Rattle.formats.specs.Events.{same_event, event_name, event_of_name, event_edition}
 use Rattle.formats.proofs.Naming.{only_name-event}
-use Rattle.rounds.specs.Tables as tables
-use Rattle.rounds.specs.Tables.{Table}
-use Rattle.rounds.specs.declared.fault.EnterFault.TheVariants as enter
-use Rattle.texts.specs.declared.command.Command.{Command}
-use Rattle.texts.specs.declared.command.Command.TheVariants.{Enter}
 use Rattle.texts.specs.declared.command.Settings.{Settings}
-use Rattle.texts.specs.declared.answer.Code.TheVariants as code
-use Rattle.texts.proofs.Numerals.{bytes_eq-same}
+use Rattle.wcif.specs.declared.options.{CumulativeLimits.CumulativeLimits, SameNames.SameNames}
+use Rattle.wcif.specs.Events.{event_named, event_faults, enters}
+use Rattle.wcif.specs.{Told.place, Told.told, Commands.entering, Commands.entering_all}
+use Rattle.wcif.specs.{Told.told_from, Laws.first_settings, Laws.new_round, Laws.newcomer}
+use Rattle.wcif.{specs.Faults.person_faults, proofs.Held.holds_event, proofs.Accepting.on_time}
+use Rattle.wcif.specs.Persons.{text_of, text_under, has_id, is_id, id_faults, events_faults}
+use Rattle.wcif.specs.Persons.{event_ids, most_events, has_number, is_accepted}
+use Rattle.wcif.proofs.Found.{unsaid, known, found_free, found_some, found_passes, found_fails}
+use Rattle.wcif.proofs.{Found.told_found, Found.each_among, Found.or_this, Accepting.Stands}
+use Rattle.wcif.proofs.Accepting.{stands_enter, with_entrant_in, Reaches, reach_one, reach_items}
+use Rattle.std.proofs.lemmas.List.{map-append, length-map, Folds.list_any-append}
+use Rattle.rounds.specs.Tables.{Table}
+use Rattle.texts.specs.declared.command.Command.{Command, TheVariants.Enter}
+use Rattle.texts.proofs.{Numerals.bytes_eq-same, EventEditions.enter_spelled}
 use Rattle.commands.specs.Accepted.{name_of, refusal, is_registered, round_of, enter_code}
 use Rattle.commands.specs.model.Kept.{with_entry}
-use Rattle.texts.proofs.EventEditions.{enter_spelled}
-use Rattle.wcif.specs.declared.options.CumulativeLimits.{CumulativeLimits}
-use Rattle.wcif.specs.Commands.{entering, entering_all}
-use Rattle.wcif.specs.Events.{event_named, event_faults, enters}
-use Rattle.wcif.specs.Laws.{first_settings, new_round, newcomer}
-use Rattle.wcif.specs.Persons.{text_of, is_id, id_faults, event_ids, is_accepted}
-use Rattle.wcif.specs.Told.{told_from}
-use Rattle.wcif.proofs.Accepting.{Reaches, reach_one, reach_items, on_time}
-use Rattle.wcif.proofs.Found.{each_among, or_this}
-use Rattle.wcif.proofs.HeldEntries.{HoldsId, holds_id}
-use Rattle.wcif.proofs.Opening.{is_late, same_itself}
-use Rattle.wcif.proofs.Standing.{Stands, stands_alike, stands_enter, with_entrant_in}
+use Rattle.wcif.specs.declared.fault.PersonFault.TheVariants as fault
+use Rattle.rounds.specs.Tables as tables
+use Rattle.rounds.specs.declared.fault.EnterFault.TheVariants as enter
+use Rattle.texts.specs.declared.answer.Code.TheVariants as code
+
+-- what holds of an id in a registration: the file has its event, and the person is in it once
+pub record HoldsId (how : CumulativeLimits) (persons events : List Data) (edition : ℕ)
+    (earlier : List Data) (id : Data) : Type 0 where
+  pub event : Event
+  pub settings : Settings
+  pub text : text_of id ≡ event_name event
+  pub named : event_of_name (text_of id) ≡ Some event
+  pub set : first_settings how events event ≡ Some settings
+  pub few : count_by (enters event) persons ≤ most_entrants
+  pub early : nat_le (event_edition event) edition ≡ true
+  pub new : list_any (is_id (event_name event)) earlier ≡ false
+
+-- the event of an id that an event of the file has
+id_held : (how : CumulativeLimits) (persons events : List Data) (edition : ℕ)
+    (earlier : List Data) (id : Data) → told_from (event_faults how persons) [] events ≡ []
+    → list_any (λ d. is_late edition (event_named d)) events ≡ false
+    → list_any (has_id (text_of id)) events ≡ true → list_any (is_id (text_of id)) earlier ≡ false
+    → HoldsId how persons events edition earlier id
+unfolding event_named
+id_held how persons events edition earlier id none early held new =
+    let found = found_some (has_id (text_of id)) events held in
+    let said = told_found (event_faults how persons) (has_id (text_of id)) [] events found.0 none
+    found.1 in
+    let event = holds_event how persons said.0 found.0 said.1 in
+    let same : text_of id ≡ text_under (codes "id") found.0 =
+    (bytes_eq-Decides (text_of id) (text_under (codes "id") found.0)).0
+    (found_passes (has_id (text_of id)) events found.0 found.1) in
+    let named : event_of_name (text_of id) ≡ Some event.event =
+    ap event_of_name same ∙ event.named in
+    let text : text_of id ≡ event_name event.event =
+    (only_name-event event.event (text_of id)).0 named in
+    record {
+      event = event.event;
+      settings = event.settings;
+      text = text;
+      named = named;
+      set = rw (← text, found.1) event.set;
+      few = event.few;
+      early =
+          in_time edition (event_edition event.event) (sym (ap (is_late edition) event.named)
+          ∙ found_fails (has_id (text_of id)) (λ d. is_late edition (event_named d)) events found.0
+          found.1 early);
+      new = rw (← text) new;
+    }
+
+pub holds_id : (how : CumulativeLimits) (persons events : List Data) (edition : ℕ)
+    (earlier : List Data) (id : Data) → told_from (event_faults how persons) [] events ≡ []
+    → list_any (λ d. is_late edition (event_named d)) events ≡ false
+    → id_faults events earlier id ≡ [] → HoldsId how persons events edition earlier id
+holds_id how persons events edition earlier id none early free =
+    let held = unsaid (not (list_any (has_id (text_of id)) events))
+    (fault.NotHeld (place earlier)) [] _ free in
+    let new = unsaid _ (fault.EnteredTwice (place earlier)) [] [] held.1 in
+    id_held how persons events edition earlier id none early
+    (known (list_any (has_id (text_of id)) events) held.0) new.0
+
+has_ids : (events : List Data) (o : Option (List Data)) → events_faults events o ≡ []
+    → (ids : List Data) × (o ≡ Some ids) × (told_from (id_faults events) [] ids ≡ [])
+unfolding told
+has_ids events None none = absurd (cc)
+has_ids events (Some ids) none =
+    (ids, refl, (unsaid (nat_lt most_events (length ids)) fault.TooManyEvents [] _ none).1)
+
+-- the ids of the accepted person with a number
+pub person_ids : (how : SameNames) (persons events : List Data) (n : ℕ) (p : Data)
+    → told_from (person_faults how events persons) [] persons ≡ []
+    → find (has_number n) persons ≡ Some p
+    → (ids : List Data) × (event_ids p ≡ Some ids) × (told_from (id_faults events) [] ids ≡ [])
+person_ids how persons events n p none found =
+    let free = found_free how persons events n p none found in
+    has_ids events (event_ids p) free.1.entries
 
 -- the first rounds of the events, with these entrants in each
 abbrev pub rounds_with : CumulativeLimits → List Data → (Event → List ℕ) → Event
@@ -59,17 +126,14 @@ not_full ns room = rw (length-map ns newcomer) (grind (arith, nat_tests))
 -- a number that is registered, and not in the round yet, in which there is room
 enter_allowed : (now : List Command) (f : Event) (n : ℕ) (s : Settings) (ns : List ℕ)
     (name : List ℕ) → name_of now n ≡ Some name → round_of now f 1 ≡ Some (new_round f ns s)
-    → list_any (λ m. n == m) ns ≡ false → length ns < most_entrants
-    → refusal now (Enter f n) ≡ None
+    → list_any (λ m. n == m) ns ≡ false → length ns < most_entrants → refusal now (Enter f n) ≡ None
 enter_allowed now f n s ns name registered opened absent room =
-    rw opened
-    (step (is_registered now n) (list_any (tables.has_number n) (map newcomer ns))
+    rw opened (step (is_registered now n) (list_any (tables.has_number n) (map newcomer ns))
     (nat_le most_entrants (length (map newcomer ns))) (ap is_some registered)
     (entered_none n ns ∙ absent) (not_full ns room))
   where
     step : (a i l : Bool) → a ≡ true → i ≡ false → l ≡ false
-        → cond (not a) (Some code.UnknownCompetitor)
-        (option_and_then enter_code
+        → cond (not a) (Some code.UnknownCompetitor) (option_and_then enter_code
         (cond i (Some enter.Already) (cond l (Some enter.Full) None))) ≡ None
     step a i l first second third = rw (first, second, third) refl
 
@@ -78,35 +142,30 @@ entry_added : (f : Event) (n : ℕ) (s : Settings) (ns : List ℕ)
 entry_added f n s ns = rw (map-append newcomer ns (n ∷ [])) refl
 
 or_nothing : (a c : Bool) → c ≡ false → (a || (c || false)) ≡ a
-or_nothing true c h = refl
-or_nothing false c h = rw h refl
+or_nothing a c h = rw h (or-false a)
 
--- the event that was entered
-entered_here : (how : CumulativeLimits) (persons events : List Data) (edition n : ℕ)
+-- one more event was entered
+entered_more : (how : CumulativeLimits) (persons events : List Data) (edition n : ℕ)
     (among : Event → List ℕ) (earlier : List Data) (x : Data)
     (held : HoldsId how persons events edition earlier x)
-    → with_entrant_in (rounds_with how events (also n earlier among)) held.event n held.event
-    ≡ rounds_with how events (also n (earlier ++ x ∷ []) among) held.event
-entered_here how persons events edition n among earlier x held =
-    ap
-    (λ b. cond b (option_map (with_entry n) (before held.event)) (before held.event))
-    (same_itself held.event)
-    ∙ ap
-    (λ o. option_map (with_entry n) (option_map (new_round held.event (also n earlier among
-    held.event)) o))
-    held.set
-    ∙ ap (λ b. Some (with_entry n (new_round held.event (those b) held.settings))) held.new
-    ∙ ap Some (entry_added held.event n held.settings (among held.event))
-    ∙ sym
-    (ap (option_map (new_round held.event (also n (earlier ++ x ∷ []) among held.event))) held.set
-    ∙ ap (λ b. Some (new_round held.event (those b) held.settings)) has)
+    → with_entrant_in (rounds_with how events (also n earlier among)) held.event n
+    ≡ rounds_with how events (also n (earlier ++ x ∷ []) among)
+entered_more how persons events edition n among earlier x held =
+    by_event (with_entrant_in (rounds_with how events (also n earlier among)) held.event n)
+    (rounds_with how events (also n (earlier ++ x ∷ []) among)) held.event (rw (
+      same_itself held.event,
+      held.set,
+      held.new,
+      has,
+    ) (ap Some (entry_added held.event n held.settings (among held.event))))
+    (λ e other.
+    rw (
+      other,
+      list_any-append (is_id (event_name e)) earlier (x ∷ []),
+      or_nothing (list_any (is_id (event_name e)) earlier) (is_id (event_name e) x)
+          (without e other (is_id (event_name e) x) refl),
+    ) refl)
   where
-    before : Event → Option (Settings × Table)
-    before = rounds_with how events (also n earlier among)
-
-    those : Bool → List ℕ
-    those b = cond b (among held.event ++ n ∷ []) (among held.event)
-
     own : is_id (event_name held.event) x ≡ true
     own = rw held.text (bytes_eq-same (event_name held.event))
 
@@ -116,57 +175,13 @@ entered_here how persons events edition n among earlier x held =
         ∙ or_this (list_any (is_id (event_name held.event)) earlier)
         (is_id (event_name held.event) x) false own
 
--- another event
-entered_other : (how : CumulativeLimits) (persons events : List Data) (edition n : ℕ)
-    (among : Event → List ℕ) (earlier : List Data) (x : Data)
-    (held : HoldsId how persons events edition earlier x) (e : Event)
-    → same_event e held.event ≡ false
-    → with_entrant_in (rounds_with how events (also n earlier among)) held.event n e
-    ≡ rounds_with how events (also n (earlier ++ x ∷ []) among) e
-entered_other how persons events edition n among earlier x held e other =
-    ap
-    (λ b. cond b (option_map (with_entry n) (rounds_with how events (also n earlier among) e))
-    (rounds_with how events (also n earlier among) e))
-    other
-    ∙ ap
-    (λ b. option_map (new_round e (cond b (among e ++ n ∷ []) (among e)))
-    (first_settings how events e))
-    (sym
-    (list_any-append (is_id (event_name e)) earlier (x ∷ [])
-    ∙ or_nothing (list_any (is_id (event_name e)) earlier) (is_id (event_name e) x)
-    (without (is_id (event_name e) x) refl)))
-  where
-    without : (b : Bool) → is_id (event_name e) x ≡ b → b ≡ false
-    without false is = refl
-    without true is =
-        let text : event_name e ≡ text_of x =
-        (bytes_eq-Decides (event_name e) (text_of x)).0 is in
-        let found : Some e ≡ Some held.event =
-        sym ((only_name-event e (text_of x)).1 (sym text)) ∙ held.named in
-        let same : e ≡ held.event = cc in
-        absurd
-        (false≢true
-        (sym other ∙ ap (λ y. same_event y held.event) same ∙ same_itself held.event))
-
-entered_more : (how : CumulativeLimits) (persons events : List Data) (edition n : ℕ)
-    (among : Event → List ℕ) (earlier : List Data) (x : Data)
-    (held : HoldsId how persons events edition earlier x) (e : Event)
-    → with_entrant_in (rounds_with how events (also n earlier among)) held.event n e
-    ≡ rounds_with how events (also n (earlier ++ x ∷ []) among) e
-entered_more how persons events edition n among earlier x held e =
-    step (same_event e held.event) refl
-  where
-    step : (b : Bool) → same_event e held.event ≡ b
-        → with_entrant_in (rounds_with how events (also n earlier among)) held.event n e
-        ≡ rounds_with how events (also n (earlier ++ x ∷ []) among) e
-    step false other =
-        entered_other how persons events edition n among earlier x held e other
-    step true is =
-        subst
-        (λ y. with_entrant_in (rounds_with how events (also n earlier among)) held.event n y
-        ≡ rounds_with how events (also n (earlier ++ x ∷ []) among) y)
-        (sym (same_event-equal e held.event is))
-        (entered_here how persons events edition n among earlier x held)
+    without : (e : Event) → same_event e held.event ≡ false → (b : Bool)
+        → is_id (event_name e) x ≡ b → b ≡ false
+    without e other false is = refl
+    without e other true is =
+        let text : event_name e ≡ text_of x = (bytes_eq-Decides (event_name e) (text_of x)).0 is in
+        absurd (not_same e held.event other
+        (sym ((only_name-event e (text_of x)).1 (sym text)) ∙ held.named))
 
 -- a person who may be entered: registered, accepted, with these ids, in no round yet, and there is
 -- room in each
@@ -194,13 +209,6 @@ pub enters_by : (e : Event) (p : Data) (ids : List Data) → is_accepted p ≡ t
 unfolding enters
 enters_by e p ids accepted own = rw (accepted, own) refl
 
-in_time : (n edition : ℕ) → n ≤ edition → nat_le n edition ≡ true
-in_time n edition h = grind (arith, nat_tests)
-
-known : (b : Bool) → not b ≡ false → b ≡ true
-known true h = refl
-known false h = absurd (false≢true (sym h))
-
 enter_one : (how : CumulativeLimits) (persons events : List Data) (names : ℕ → Option (List ℕ))
     (edition n : ℕ) (among : Event → List ℕ) (p : Data) (ids : List Data)
     → told_from (event_faults how persons) [] events ≡ []
@@ -212,54 +220,34 @@ enter_one : (how : CumulativeLimits) (persons events : List Data) (names : ℕ �
 enter_one how persons events names edition n among p ids none early may earlier x now free mine
     stands =
     let held = holds_id how persons events edition earlier x none early free in
-    let named : entering n x ≡ Enter held.event n ∷ [] =
-    ap (λ o. option_to_list (option_map (λ e. Enter e n) o)) held.named in
     let among_ids : list_any (is_id (event_name held.event)) ids ≡ true =
-    ap (λ name. list_any (is_id name) ids) (sym held.text)
-    ∙ known (list_any (is_id (text_of x)) ids) mine in
+    rw (← held.text) (known (list_any (is_id (text_of x)) ids) mine) in
     let does : enters held.event p ≡ true =
     enters_by held.event p ids may.accepted may.own ∙ among_ids in
     let opened : round_of now held.event 1
     ≡ Some (new_round held.event (among held.event) held.settings) =
-    stands.first held.event
-    ∙ ap (option_map (new_round held.event (also n earlier among held.event))) held.set
-    ∙ ap
-    (λ b. Some (new_round held.event (cond b (among held.event ++ n ∷ []) (among held.event))
-    held.settings))
-    held.new in
-    subst (λ cs. Reaches now cs (AreIn how events names edition n among (earlier ++ x ∷ [])))
-    (sym named)
-    (reach_one now (Enter held.event n) (AreIn how events names edition n among (earlier ++ x ∷ []))
-    (on_time now (Enter held.event n) edition stands.held
-    (enter_spelled edition held.event n (in_time (event_edition held.event) edition held.early))
+    stands.first held.event ∙ rw (held.set, held.new) refl in
+    rw held.named (reach_one now (Enter held.event n)
+    (AreIn how events names edition n among (earlier ++ x ∷ [])) (on_time now (Enter held.event n)
+    edition stands.held (enter_spelled edition held.event n held.early)
     (enter_allowed now held.event n held.settings (among held.event) may.name
     (stands.people n ∙ may.registered) opened (may.absent held.event)
-    (may.room held.event does held.few)))
-    (stands_alike (now ++ Enter held.event n ∷ []) names names edition
-    (with_entrant_in (rounds_with how events (also n earlier among)) held.event n)
-    (rounds_with how events (also n (earlier ++ x ∷ []) among)) (λ m. refl)
-    (entered_more how persons events edition n among earlier x held)
-    (stands_enter now names edition (rounds_with how events (also n earlier among)) held.event n
-    stands)))
+    (may.room held.event does held.few))) (subst
+    (Stands (now ++ Enter held.event n ∷ []) names edition)
+    (entered_more how persons events edition n among earlier x held) (stands_enter now names edition
+    (rounds_with how events (also n earlier among)) held.event n stands)))
 
 -- all ids of a registration
 pub enter_person : (how : CumulativeLimits) (persons events : List Data)
     (names : ℕ → Option (List ℕ)) (edition n : ℕ) (among : Event → List ℕ) (p : Data)
-    (ids : List Data)
-    → told_from (event_faults how persons) [] events ≡ []
+    (ids : List Data) → told_from (event_faults how persons) [] events ≡ []
     → list_any (λ d. is_late edition (event_named d)) events ≡ false
     → MayEnter persons names among n p ids → told_from (id_faults events) [] ids ≡ []
     → (now : List Command) → Stands now names edition (rounds_with how events among)
     → Reaches now (entering_all n p)
     (λ cs. Stands cs names edition (rounds_with how events (also n ids among)))
 enter_person how persons events names edition n among p ids none early may free now stands =
-    subst
-    (λ (xs : List Data). Reaches now (flat_map (entering n) xs)
-    (AreIn how events names edition n among ids))
-    (sym (ap (λ o. unwrap_or o []) may.own))
-    (reach_items (id_faults events) (is_strange ids) (entering n)
+    rw may.own (reach_items (id_faults events) (is_strange ids) (entering n)
     (AreIn how events names edition n among)
     (enter_one how persons events names edition n among p ids none early may) [] ids now free
-    (each_among (λ x y. is_id (text_of x) y) (λ x. bytes_eq-same (text_of x)) [] ids)
-    (stands_alike now names names edition (rounds_with how events among)
-    (rounds_with how events (also n [] among)) (λ m. refl) (λ e. refl) stands))
+    (each_among (λ x y. is_id (text_of x) y) (λ x. bytes_eq-same (text_of x)) [] ids) stands)

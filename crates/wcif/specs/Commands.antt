@@ -3,23 +3,16 @@
 -- the file, and who enters them.
 use Rattle.std.specs.Prelude.{ℕ, List, [], ◌∷◌, ◌++◌, map, find, flat_map, codes, Option, unwrap_or}
 use Rattle.std.specs.Prelude.{option_to_list, slice_get}
-use Rattle.std.specs.List.{range_with_len}
-use Rattle.std.specs.Option.{option_and_then, option_map}
+use Rattle.std.specs.{List.range_with_len, Option.option_and_then, Option.option_map}
 use Rattle.serde_json.specs.Data.{Data}
-use Rattle.formats.specs.declared.events.Event.{Event}
-use Rattle.formats.specs.Events.{event_of_name}
-use Rattle.texts.specs.Fields.{round_id}
-use Rattle.texts.specs.declared.command.Command.{Command}
+use Rattle.formats.specs.{declared.events.Event.Event, Events.event_of_name}
+use Rattle.texts.specs.{Fields.round_id, declared.command.Command.Command}
 use Rattle.texts.specs.declared.command.Command.TheVariants.{Register, Open, Enter, SetEdition}
-use Rattle.wcif.specs.declared.options.Options.{Options}
-use Rattle.wcif.specs.declared.options.CumulativeLimits.{CumulativeLimits}
-use Rattle.wcif.specs.declared.options.Edition.{Edition}
+use Rattle.wcif.specs.declared.options.{Options.Options, CumulativeLimits.CumulativeLimits}
+use Rattle.wcif.specs.declared.options.{Edition.Edition, SameNames.SameNames}
 use Rattle.wcif.specs.declared.options.Edition.TheVariants.{Three, Four}
-use Rattle.wcif.specs.declared.options.SameNames.{SameNames}
-use Rattle.wcif.specs.Members.{list_at}
+use Rattle.wcif.specs.{Members.list_at, Events.event_named, Events.rounds_of, Rounds.settings_in}
 use Rattle.wcif.specs.Persons.{text_of, has_number, name_as, event_ids, last_number}
-use Rattle.wcif.specs.Events.{event_named, rounds_of}
-use Rattle.wcif.specs.Rounds.{settings_in}
 
 -- the numbers from 1 to a last one
 unfoldable pub numbers_to : ℕ → List ℕ

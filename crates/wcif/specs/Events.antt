@@ -1,20 +1,17 @@
 -- The events of a competition in the WCA Competition Interchange Format (its Event), and what a
 -- desk cannot hold of them.
-use Rattle.std.specs.Prelude.{ℕ, ◌==◌, ◌&&◌, Bool, nat_lt}
-use Rattle.std.specs.Prelude.{if◌then◌else◌, List, [], ◌∷◌, ◌++◌, length, map, count_by, codes}
-use Rattle.std.specs.Prelude.{Option, Some, None, unwrap_or}
+use Rattle.std.specs.Prelude.{ℕ, ◌==◌, ◌&&◌, Bool, nat_lt, if◌then◌else◌, List, [], ◌∷◌, ◌++◌}
+use Rattle.std.specs.Prelude.{length, map, count_by, codes, Option, Some, None, unwrap_or}
 use Rattle.std.specs.List.{list_any}
 use Rattle.serde_json.specs.Data.{Data}
 use Rattle.formats.specs.declared.events.Event.{Event}
 use Rattle.formats.specs.Events.{event_name, event_of_name, most_entrants, last_round}
-use Rattle.wcif.specs.declared.options.CumulativeLimits.{CumulativeLimits}
-use Rattle.wcif.specs.declared.fault.CompetitionFault.{CompetitionFault}
+use Rattle.wcif.specs.{declared.options.CumulativeLimits.CumulativeLimits, Members.list_at}
+use Rattle.wcif.specs.{declared.fault.CompetitionFault.CompetitionFault, Rounds.round_faults}
+use Rattle.wcif.specs.Persons.{text_under, is_accepted, event_ids, has_id, is_id}
+use Rattle.wcif.specs.Told.{told, place}
 use Rattle.wcif.specs.declared.fault.CompetitionFault.TheVariants as of
 use Rattle.wcif.specs.declared.fault.EventFault.TheVariants as fault
-use Rattle.wcif.specs.Members.{list_at}
-use Rattle.wcif.specs.Persons.{text_under, is_accepted, event_ids, has_id, is_id}
-use Rattle.wcif.specs.Rounds.{round_faults}
-use Rattle.wcif.specs.Told.{told, place}
 
 -- the event of a desk with the id
 unfoldable pub event_named : Data → Option Event

@@ -3,15 +3,11 @@
 use Rattle.std.specs.Prelude.{ℕ, nat_lt, if◌then◌else◌, List, [], ◌∷◌, ◌++◌, length, map, take}
 use Rattle.std.specs.Prelude.{codes, Option, Some, None}
 use Rattle.serde_json.specs.Data.{Data}
-use Rattle.wcif.specs.declared.options.Options.{Options}
-use Rattle.wcif.specs.declared.options.SameNames.{SameNames}
-use Rattle.wcif.specs.declared.fault.CompetitionFault.{CompetitionFault}
-use Rattle.wcif.specs.declared.fault.CompetitionFault.TheVariants as of
-use Rattle.wcif.specs.declared.fault.FilePerson.{FilePerson}
-use Rattle.wcif.specs.Members.{list_at}
+use Rattle.wcif.specs.declared.options.{Options.Options, SameNames.SameNames}
+use Rattle.wcif.specs.declared.fault.{CompetitionFault.CompetitionFault, FilePerson.FilePerson}
+use Rattle.wcif.specs.{Members.list_at, Events.event_faults, Told.told, Told.place}
 use Rattle.wcif.specs.Persons.{accepted_faults, given_name, is_accepted, most_events, number_of}
-use Rattle.wcif.specs.Events.{event_faults}
-use Rattle.wcif.specs.Told.{told, place}
+use Rattle.wcif.specs.declared.fault.CompetitionFault.TheVariants as of
 
 -- the first bytes of a text, at most this many
 abbrev pub front_within : ℕ → List ℕ → List ℕ

@@ -1,17 +1,11 @@
 -- A competition from the bytes of a file: JSON in UTF-8, within limits (the project's own).
 use Rattle.std.specs.Prelude.{◌≡◌, ◌≢◌, ◌≤◌, ◌<◌, ℕ, if◌then◌else◌, List, [], ◌∷◌, length, take}
-use Rattle.std.specs.Prelude.{drop}
-use Rattle.std.specs.Prelude.{bytes_eq, Some, None}
-use Rattle.std.specs.Str.{IsUtf8}
-use Rattle.serde_json.specs.Data.{Data, depth}
-use Rattle.serde_json.specs.Read.{read}
+use Rattle.std.specs.{Prelude.drop, Prelude.bytes_eq, Prelude.Some, Prelude.None, Str.IsUtf8}
+use Rattle.serde_json.specs.{Data.Data, Data.depth, Read.read}
 use Rattle.texts.specs.declared.command.Command.{Command}
-use Rattle.wcif.specs.declared.options.Options.{Options}
-use Rattle.wcif.specs.declared.file.FileFault.{FileFault}
+use Rattle.wcif.specs.{declared.options.Options.Options, Commands.commands, Faults.faults}
+use Rattle.wcif.specs.declared.file.FileFault.{FileFault, TheVariants.NoMemory}
 use Rattle.wcif.specs.declared.file.FileFault.TheVariants.{TooLong, NotJson, TooDeep, Refused}
-use Rattle.wcif.specs.declared.file.FileFault.TheVariants.{NoMemory}
-use Rattle.wcif.specs.Commands.{commands}
-use Rattle.wcif.specs.Faults.{faults}
 
 -- 64 MiB
 abbrev pub most_bytes : ℕ
@@ -40,8 +34,7 @@ SetsUp options bytes made =
 abbrev pub FileFails : Options → List ℕ → FileFault → Type 0
 FileFails options bytes TooLong = most_bytes < length bytes
 FileFails options bytes (NotJson fault) =
-    (length bytes ≤ most_bytes)
-    × (IsUtf8 (without_mark bytes) → read (without_mark bytes) ≡ None)
+    (length bytes ≤ most_bytes) × (IsUtf8 (without_mark bytes) → read (without_mark bytes) ≡ None)
 FileFails options bytes TooDeep =
     (d : Data) × (length bytes ≤ most_bytes) × IsUtf8 (without_mark bytes)
     × (read (without_mark bytes) ≡ Some d) × (most_levels < depth d)

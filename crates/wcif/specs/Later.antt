@@ -2,32 +2,21 @@
 -- rounds from which nobody advances, though the file has a next one (the project's own).
 use Rattle.std.specs.Prelude.{◌≡◌, ℕ, ◌-◌, Bool, true, false, ◌&&◌, nat_lt, if◌then◌else◌, List, []}
 use Rattle.std.specs.Prelude.{◌∷◌, ◌++◌, length, flat_map, slice_get, codes, Option, Some, None}
-use Rattle.std.specs.Prelude.{unwrap_or}
-use Rattle.std.specs.Option.{option_and_then}
-use Rattle.serde_json.specs.Data.{Data}
-use Rattle.serde_json.specs.Read.{read}
-use Rattle.formats.specs.declared.events.Event.{Event}
-use Rattle.formats.specs.declared.advance.Advance.{Advance as Advances}
-use Rattle.formats.specs.declared.advance.Advance.TheVariants.{Final as NobodyAdvances, Top}
-use Rattle.formats.specs.declared.advance.Advance.TheVariants.{Percent}
-use Rattle.texts.specs.Fields.{round_id as id_of_round}
-use Rattle.texts.specs.declared.command.Command.TheVariants.{Open}
-use Rattle.texts.specs.declared.command.RoundId.{RoundId}
-use Rattle.texts.specs.declared.command.Settings.{Settings}
-use Rattle.wcif.specs.declared.later.RoundImport.{RoundImport}
+use Rattle.std.specs.{Prelude.unwrap_or, Option.option_and_then}
+use Rattle.serde_json.specs.{Data.Data, Read.read}
+use Rattle.formats.specs.declared.{events.Event.Event, advance.Advance.Advance as Advances}
+use Rattle.formats.specs.declared.advance.Advance.TheVariants.{Final as NobodyAdvances}
+use Rattle.texts.specs.{Fields.round_id as id_of_round, declared.command.RoundId.RoundId}
+use Rattle.texts.specs.declared.command.{Settings.Settings, Command.TheVariants.Open}
+use Rattle.wcif.specs.{declared.later.RoundImport.RoundImport, Files.without_mark, Lines.line}
 use Rattle.wcif.specs.declared.later.RoundImport.TheVariants.{Opening, Final}
-use Rattle.wcif.specs.declared.options.CumulativeLimits.{CumulativeLimits}
-use Rattle.wcif.specs.declared.options.Options.{Options}
-use Rattle.wcif.specs.Events.{event_named, rounds_of}
-use Rattle.wcif.specs.Files.{without_mark}
-use Rattle.wcif.specs.Lines.{line}
-use Rattle.wcif.specs.Members.{list_at}
+use Rattle.wcif.specs.declared.options.{CumulativeLimits.CumulativeLimits, Options.Options}
+use Rattle.wcif.specs.{Events.event_named, Events.rounds_of, Members.list_at}
 use Rattle.wcif.specs.Rounds.{round_id, settings_in}
 
 abbrev pub is_final : Advances → Bool
 is_final NobodyAdvances = true
-is_final (Top n) = false
-is_final (Percent n) = false
+is_final _ = false
 
 -- a later round, how the file has it
 abbrev pub opening_later : RoundId → Settings → List RoundImport

@@ -1,28 +1,20 @@
 -- What holds of the commands of a competition of which a desk can hold all (the project's own).
 use Rattle.std.specs.Prelude.{◌≡◌, ◌≤◌, ◌==◌, ℕ, Bool, true, false, List, [], ◌∷◌, ◌++◌, map}
 use Rattle.std.specs.Prelude.{filter, find, Option, Some, None, slice_get, All, codes}
-use Rattle.std.specs.List.{list_any, slice_split}
-use Rattle.std.specs.Option.{option_map, option_and_then}
+use Rattle.std.specs.{List.list_any, List.slice_split, Option.option_map, Option.option_and_then}
 use Rattle.serde_json.specs.Data.{Data}
-use Rattle.formats.specs.declared.events.Event.{Event}
-use Rattle.formats.specs.Events.{event_name, unit_of}
+use Rattle.formats.specs.{declared.events.Event.Event, Events.event_name, Events.unit_of}
 use Rattle.rounds.specs.Tables.{Entrant, Table}
-use Rattle.texts.specs.declared.command.Command.{Command}
-use Rattle.texts.specs.declared.command.Settings.{Settings}
-use Rattle.texts.specs.declared.answer.Answer.TheVariants.{Done}
+use Rattle.texts.specs.declared.command.{Command.Command, Settings.Settings}
+use Rattle.texts.specs.{declared.answer.Answer.TheVariants.Done, Reading.told}
 use Rattle.texts.specs.Spelling.{IsFit, spelling}
-use Rattle.texts.specs.Reading.{told}
 use Rattle.commands.specs.Accepted.{name_of, round_of}
 use Rattle.commands.specs.History.{History, nothing, history, after, answer_to, spelled_refusal}
-use Rattle.wcif.specs.declared.options.CumulativeLimits.{CumulativeLimits}
-use Rattle.wcif.specs.declared.options.Options.{Options}
+use Rattle.wcif.specs.declared.options.{CumulativeLimits.CumulativeLimits, Options.Options}
 use Rattle.wcif.specs.Commands.{commands, commands_of, numbered, numbers}
-use Rattle.wcif.specs.Events.{event_named, enters, rounds_of}
-use Rattle.wcif.specs.Faults.{faults, faults_in}
-use Rattle.wcif.specs.Lines.{lines}
-use Rattle.wcif.specs.Members.{list_at}
+use Rattle.wcif.specs.{Events.event_named, Events.enters, Events.rounds_of, Faults.faults_in}
+use Rattle.wcif.specs.{Faults.faults, Lines.lines, Members.list_at, Rounds.settings_in}
 use Rattle.wcif.specs.Persons.{has_id, has_number, is_accepted, name_as, number_of}
-use Rattle.wcif.specs.Rounds.{settings_in}
 
 -- a desk can hold all of a file: the laws below are then of its two lists, and of its commands
 abbrev pub ListsAreHeld : Type 0
@@ -37,8 +29,7 @@ ListsAreHeld =
 abbrev pub NamesAreApart : Type 0
 NamesAreApart =
     (options : Options) (persons events : List Data)
-    → faults_in options (Some persons) (Some events) ≡ []
-    → (m n : ℕ) (q p : Data)
+    → faults_in options (Some persons) (Some events) ≡ [] → (m n : ℕ) (q p : Data)
     → find (has_number m) persons ≡ Some q → find (has_number n) persons ≡ Some p
     → name_as options.names persons q ≡ name_as options.names persons p → m ≡ n
 
@@ -117,8 +108,7 @@ pub record IsSetUp (options : Options) (persons events : List Data) (cs : List C
     Type 0 where
   pub people : (n : ℕ)
       → name_of cs n ≡ option_map (name_as options.names persons) (find (has_number n) persons)
-  pub first_rounds : (e : Event)
-      → round_of cs e 1
+  pub first_rounds : (e : Event) → round_of cs e 1
       ≡ option_map (new_round e (entrants persons e)) (first_settings options.limits events e)
   pub later_rounds : (e : Event) (r : ℕ) → 2 ≤ r → round_of cs e r ≡ None
   pub everyone : All (IsThere options persons cs) persons
@@ -152,8 +142,7 @@ DoesAllLines =
     → faults_in options (Some persons) (Some events) ≡ []
     → (entries : List (ℕ × List ℕ)) → HaveOwnIds entries
     → map (λ entry. entry.1) entries ≡ map spelling (commands_of options persons events)
-    → AreDone nothing entries
-    × ((history entries).accepted ≡ commands_of options persons events)
+    → AreDone nothing entries × ((history entries).accepted ≡ commands_of options persons events)
 
 -- the text of an import has the spelled commands as its lines, and nothing after the last line feed
 abbrev pub PrintsWholeLines : Type 0

@@ -1,7 +1,6 @@
 -- Commands as lines (the project's own).
 use Rattle.std.specs.Prelude.{ℕ, List, ◌++◌, codes, flat_map}
-use Rattle.texts.specs.declared.command.Command.{Command}
-use Rattle.texts.specs.Spelling.{spelling}
+use Rattle.texts.specs.{declared.command.Command.Command, Spelling.spelling}
 
 -- a command as it is spelled, and a line feed
 abbrev pub line : Command → List ℕ

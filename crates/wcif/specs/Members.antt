@@ -2,8 +2,7 @@
 -- own).
 use Rattle.std.specs.Prelude.{ℕ, List, [], ◌∷◌, Option, Some, None}
 use Rattle.std.specs.Option.{option_and_then, option_map}
-use Rattle.serde_json.specs.Data.{Data, null, boolean, number, string, array, object, Items}
-use Rattle.serde_json.specs.Data.{no_items, item}
+use Rattle.serde_json.specs.Data.{Data, null, number, array, Items, no_items, item}
 use Rattle.serde_json.specs.Find.{get, as_number, as_str, as_array, as_u64}
 
 -- the items of an array as a list
@@ -14,11 +13,7 @@ listed (item d ds) = d ∷ listed ds
 -- a value that is not null
 abbrev pub not_null : Data → Option Data
 not_null null = None
-not_null (boolean b) = Some (boolean b)
-not_null (number n) = Some (number n)
-not_null (string s) = Some (string s)
-not_null (array ds) = Some (array ds)
-not_null (object ms) = Some (object ms)
+not_null d = Some d
 
 -- a member that is there and is not null
 abbrev pub member_at : List ℕ → Data → Option Data

@@ -1,20 +1,14 @@
 -- The accepted persons of a competition in the WCA Competition Interchange Format (its Person and
 -- Registration): their numbers, names and events, and what a desk cannot hold of them.
-use Rattle.std.specs.Prelude.{ℕ, ◌==◌, ◌&&◌, Bool, false, not, nat_lt}
-use Rattle.std.specs.Prelude.{if◌then◌else◌, List, [], ◌∷◌, ◌++◌, length, count_by}
-use Rattle.std.specs.Prelude.{codes, bytes_eq, Option, Some, None, unwrap_or}
-use Rattle.std.specs.List.{list_any}
-use Rattle.std.specs.Option.{option_and_then}
-use Rattle.serde_json.specs.Data.{Data}
-use Rattle.serde_json.specs.Find.{get, as_str}
-use Rattle.texts.specs.Numerals.{within}
-use Rattle.texts.specs.Names.{is_clear_name}
-use Rattle.wcif.specs.declared.options.SameNames.{SameNames}
-use Rattle.wcif.specs.declared.options.SameNames.TheVariants.{Refuse, WithId}
-use Rattle.wcif.specs.declared.fault.PersonFault.{PersonFault}
-use Rattle.wcif.specs.declared.fault.PersonFault.TheVariants as fault
+use Rattle.std.specs.Prelude.{ℕ, ◌==◌, ◌&&◌, Bool, false, not, nat_lt, if◌then◌else◌, List, [], ◌∷◌}
+use Rattle.std.specs.Prelude.{◌++◌, length, count_by, codes, bytes_eq, Option, Some, None}
+use Rattle.std.specs.{Prelude.unwrap_or, List.list_any, Option.option_and_then}
+use Rattle.serde_json.specs.{Data.Data, Find.get, Find.as_str}
+use Rattle.texts.specs.{Numerals.within, Names.is_clear_name}
+use Rattle.wcif.specs.declared.options.SameNames.{SameNames, TheVariants.Refuse, TheVariants.WithId}
+use Rattle.wcif.specs.{declared.fault.PersonFault.PersonFault, Told.told, Told.place}
 use Rattle.wcif.specs.Members.{text_at, number_at, list_at}
-use Rattle.wcif.specs.Told.{told, place}
+use Rattle.wcif.specs.declared.fault.PersonFault.TheVariants as fault
 
 -- the text that a value is; what is no text is the empty one
 abbrev pub text_of : Data → List ℕ
@@ -28,8 +22,7 @@ text_under name d = unwrap_or (text_at name d) []
 unfoldable pub is_accepted : Data → Bool
 is_accepted p =
     bytes_eq (unwrap_or (option_and_then (text_at (codes "status")) (get (codes "registration")
-    p)) [])
-    (codes "accepted")
+    p)) []) (codes "accepted")
 
 unfoldable pub number_of : Data → Option ℕ
 number_of p = number_at (codes "registrantId") p

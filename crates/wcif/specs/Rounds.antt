@@ -1,27 +1,21 @@
 -- The rounds of an event in the WCA Competition Interchange Format (its Round, TimeLimit, Cutoff
 -- and AdvancementCondition), as a desk holds them. The ranges are those of the desk's commands.
-use Rattle.std.specs.Prelude.{ℕ, ◌-◌, Bool, true, false, if◌then◌else◌, List, [], ◌∷◌, ◌++◌}
-use Rattle.std.specs.Prelude.{codes, decimal, bytes_eq, Option, Some, None, unwrap_or, ok_or}
-use Rattle.std.specs.Prelude.{Result, Ok, Err}
-use Rattle.std.specs.Option.{option_and_then, option_map}
-use Rattle.std.specs.Result.{result_ok}
-use Rattle.serde_json.specs.Data.{Data, null, boolean, number, string, array, object, no_items}
-use Rattle.serde_json.specs.Data.{item}
+use Rattle.std.specs.Prelude.{ℕ, ◌-◌, Bool, true, false, if◌then◌else◌, List, [], ◌∷◌, ◌++◌, codes}
+use Rattle.std.specs.Prelude.{decimal, bytes_eq, Option, Some, None, unwrap_or, ok_or, Result, Ok}
+use Rattle.std.specs.{Prelude.Err, Option.option_and_then, Option.option_map, Result.result_ok}
+use Rattle.serde_json.specs.Data.{Data, number, array, no_items}
 use Rattle.attempts.specs.declared.Unit.{Unit as Measure}
 use Rattle.attempts.specs.declared.Unit.TheVariants.{Time, Moves, Multi}
-use Rattle.formats.specs.declared.events.Event.{Event}
-use Rattle.formats.specs.declared.events.Format.{Format}
+use Rattle.formats.specs.declared.events.{Event.Event, Format.Format}
 use Rattle.formats.specs.declared.events.Format.TheVariants.{Ao5, Mo3, Bo1, Bo2, Bo3}
 use Rattle.formats.specs.declared.advance.Advance.{Advance as Advances}
 use Rattle.formats.specs.declared.advance.Advance.TheVariants.{Final, Top, Percent}
 use Rattle.formats.specs.Events.{event_name, unit_of, is_allowed, attempts_of, most_entrants}
-use Rattle.texts.specs.declared.command.Settings.{Settings}
-use Rattle.texts.specs.Numerals.{within}
-use Rattle.wcif.specs.declared.options.CumulativeLimits.{CumulativeLimits}
+use Rattle.texts.specs.{declared.command.Settings.Settings, Numerals.within}
+use Rattle.wcif.specs.{declared.options.CumulativeLimits.CumulativeLimits, Members.member_at}
 use Rattle.wcif.specs.declared.options.CumulativeLimits.TheVariants.{Refuse, AsSingle}
-use Rattle.wcif.specs.declared.fault.RoundFault.{RoundFault}
+use Rattle.wcif.specs.{declared.fault.RoundFault.RoundFault, Members.text_at, Members.number_at}
 use Rattle.wcif.specs.declared.fault.RoundFault.TheVariants as fault
-use Rattle.wcif.specs.Members.{member_at, text_at, number_at}
 
 -- a member that is a number in a range
 abbrev pub number_within : ℕ → ℕ → List ℕ → Data → Option ℕ
@@ -61,9 +55,8 @@ cutoff_of f c =
 
 -- multi-blind has no cutoff
 abbrev pub cutoff_for : Measure → Option Format → Data → Option (ℕ × ℕ)
-cutoff_for Time f c = cutoff_of f c
-cutoff_for Moves f c = cutoff_of f c
 cutoff_for Multi f c = None
+cutoff_for _ f c = cutoff_of f c
 
 abbrev pub cutoff_by : Measure → Option Format → Option Data → Result (Option (ℕ × ℕ)) RoundFault
 cutoff_by unit f None = Ok None
@@ -78,12 +71,7 @@ cutoff_in e f d = cutoff_by (unit_of e) f (member_at (codes "cutoff") d)
 abbrev pub is_any : Option Data → Bool
 is_any None = false
 is_any (Some (array no_items)) = false
-is_any (Some (array (item d ds))) = true
-is_any (Some null) = true
-is_any (Some (boolean b)) = true
-is_any (Some (number n)) = true
-is_any (Some (string s)) = true
-is_any (Some (object ms)) = true
+is_any _ = true
 
 abbrev pub is_cumulative : Data → Bool
 is_cumulative limit = is_any (member_at (codes "cumulativeRoundIds") limit)
@@ -99,12 +87,10 @@ limit_of how limit =
 
 -- timed events have a limit, and others have none
 abbrev pub limit_by : CumulativeLimits → Measure → Option Data → Result (Option ℕ) RoundFault
-limit_by how Time None = Err fault.Limit
 limit_by how Time (Some limit) = limit_of how limit
 limit_by how Moves None = Ok None
-limit_by how Moves (Some limit) = Err fault.Limit
 limit_by how Multi None = Ok None
-limit_by how Multi (Some limit) = Err fault.Limit
+limit_by how _ _ = Err fault.Limit
 
 unfoldable pub limit_in : CumulativeLimits → Event → Data → Result (Option ℕ) RoundFault
 limit_in how e d = limit_by how (unit_of e) (member_at (codes "timeLimit") d)
@@ -138,13 +124,9 @@ settings f cutoff limit advance =
 -- its settings, where a desk holds all of them
 unfoldable pub settings_in : CumulativeLimits → Event → Data → Option Settings
 settings_in how e d =
-    option_and_then
-    (λ f. option_and_then
-    (λ cutoff. option_and_then
+    option_and_then (λ f. option_and_then (λ cutoff. option_and_then
     (λ limit. option_map (settings f cutoff limit) (result_ok (advance_in d)))
-    (result_ok (limit_in how e d)))
-    (result_ok (cutoff_in e (Some f) d)))
-    (format_in e d)
+    (result_ok (limit_in how e d))) (result_ok (cutoff_in e (Some f) d))) (format_in e d)
 
 -- the id of a round: its event, `-r` and its number
 abbrev pub round_id : Event → ℕ → List ℕ

@@ -1,11 +1,9 @@
 //! What a desk cannot hold of a competition.
 
 ghost use Rattle.std.specs.Prelude.{◌≡◌, ◌++◌, ◌∷◌, [], ◌+◌, List, map, length, IfOk, OnOk};
-ghost use Rattle.serde_json.specs.Data.{Data};
-ghost use Rattle.serde_json.specs.View.{view};
+ghost use Rattle.serde_json.specs.{Data.Data, View.view};
 ghost use Rattle.wcif.specs.declared.fault.CompetitionFault.TheVariants.{Person as PersonOf};
-ghost use Rattle.wcif.specs.Faults.{front_within, person_faults, who};
-ghost use Rattle.wcif.specs.Told.{told};
+ghost use Rattle.wcif.specs.{Faults.front_within, Faults.person_faults, Faults.who, Told.told};
 ghost use Rattle.wcif.specs.model.Kept.{AreKept, AddsFaults, KeepsPerson};
 
 use crate::fault::{CompetitionFault, FilePerson, PersonFault};
@@ -92,9 +90,8 @@ pub(crate) fn push_persons<'v>(
     persons: &'v [Value],
     events: &[Value],
 ) -> Result<People<'v>, NoMemory>
-    ensures faults { OnOk result (faults.new.items ≡ faults.old.items
-        ++ told (person_faults how (map view events.now) (map view persons.now))
-        (map view persons.now)) }
+    ensures faults { OnOk result (faults.new.items ≡ faults.old.items ++ told
+        (person_faults how (map view events.now) (map view persons.now)) (map view persons.now)) }
     ensures kept { IfOk result
         (λ people. AreKept how (map view persons.now) (map view persons.now) people) }
 {

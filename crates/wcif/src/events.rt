@@ -156,9 +156,8 @@ fn push_entrants(
     place: usize,
     persons: &[Value],
 ) -> Result<(), NoMemory>
-    ensures { OnOk result
-        (faults.new.items ≡ faults.old.items ++ entrants_faults event place (map view
-        persons.now)) }
+    ensures { OnOk result (faults.new.items ≡ faults.old.items ++ entrants_faults event place
+        (map view persons.now)) }
 {
     if entrants(event, persons) > MOST_ENTRANTS as usize {
         faults.push(CompetitionFault::Event {

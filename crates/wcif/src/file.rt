@@ -1,8 +1,7 @@
 //! A competition from the bytes of a file.
 
 ghost use Rattle.std.specs.Prelude.{◌≡◌, IfOk, IfErr};
-ghost use Rattle.wcif.specs.Files.{without_mark, SetsUp, FileFails};
-ghost use Rattle.wcif.specs.Later.{SaysLater};
+ghost use Rattle.wcif.specs.{Files.without_mark, Files.SetsUp, Files.FileFails, Later.SaysLater};
 
 use crate::fault::CompetitionFault;
 use crate::importing::{ImportFault, ImportedCompetition, import};
@@ -35,7 +34,7 @@ pub enum FileFault {
 
 /// The file without a byte-order mark at the front.
 #[tactic(auto, unfolding(crate::specs::Files::without_mark))]
-fn without_mark(bytes: &[u8]) -> &[u8]
+pub fn without_mark(bytes: &[u8]) -> &[u8]
     ensures { result.now ≡ without_mark bytes.now }
 {
     match bytes.strip_prefix(b"\xef\xbb\xbf".as_slice()) {

@@ -2,10 +2,8 @@
 
 ghost use Rattle.std.specs.Prelude.{◌≡◌, ◌∷◌, [], Some, map, flat_map, option_to_list, IfOk, IfErr};
 ghost use Rattle.serde_json.specs.View.{view};
-ghost use Rattle.wcif.specs.Commands.{commands, commands_of};
-ghost use Rattle.wcif.specs.Faults.{faults, faults_in};
-ghost use Rattle.wcif.specs.Imports.{Refuses};
-ghost use Rattle.wcif.specs.Later.{later_of, later_rounds};
+ghost use Rattle.wcif.specs.{Commands.commands, Commands.commands_of, Faults.faults_in};
+ghost use Rattle.wcif.specs.{Faults.faults, Imports.Refuses, Later.later_of, Later.later_rounds};
 ghost use Rattle.wcif.specs.declared.importing.ImportFault.TheVariants.{NoMemory as OutOfMemory};
 
 use crate::checking::push_persons;

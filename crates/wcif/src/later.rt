@@ -1,6 +1,6 @@
 //! What an import says of rounds that it does not open.
 
-ghost use Rattle.std.specs.Prelude.{◌≡◌, ◌++◌, map, flat_map, option_map, slice_get, IfOk, OnOk};
+ghost use Rattle.std.specs.Prelude.{◌≡◌, ◌++◌, map, flat_map, slice_get, IfOk, OnOk};
 ghost use Rattle.std.specs.Option.{option_and_then};
 ghost use Rattle.serde_json.specs.View.{view};
 ghost use Rattle.wcif.specs.Later.{final_later, is_final, later_at, later_held, later_line};
@@ -67,15 +67,8 @@ fn push_final(
     Ok(())
 }
 
-/// The round at a place, counted from 0.
-fn round_at(rounds: &[Value], place: usize) -> Option<&Value>
-    ensures { option_map (λ round. round.now) result ≡ slice_get rounds.now place }
-{
-    rounds.get(place)
-}
-
 /// The settings of the round at a place, where there is one and a desk holds all of them.
-#[tactic(auto, using(crate::proofs::Places::viewed_at))]
+#[tactic(auto, using(crate::proofs::Listed::viewed_at))]
 fn settings_at(
     how: CumulativeLimits,
     event: Event,
@@ -85,7 +78,7 @@ fn settings_at(
     ensures { result ≡ option_and_then (settings_in how event)
         (slice_get (map view rounds.now) place) }
 {
-    match round_at(rounds, place) {
+    match rounds.get(place) {
         Some(round) => settings_in(how, event, round),
         None => None,
     }

@@ -5,13 +5,14 @@ ghost use Rattle.wcif.specs.Laws.{DoesAllLines, PrintsWholeLines, ListsAreHeld};
 
 /// A law: a file of which a desk can hold all has a list of persons and a list of events; the other
 /// laws are of these two, and of the commands that they make.
+#[tactic(auto, using(crate::proofs::Held::lists_held))]
 pub fn lists_are_held()
     ensures { ListsAreHeld }
 {}
 
 /// A law: where a desk can hold all of a competition, the registrations that an import makes give
 /// no two numbers one name.
-#[tactic(auto, using(crate::proofs::Distinct::names_apart))]
+#[tactic(auto, using(crate::proofs::Found::names_apart))]
 pub fn names_are_apart()
     ensures { NamesAreApart }
 {}
@@ -45,6 +46,7 @@ pub fn does_all_lines()
 
 /// A law: where a desk can hold all of a competition, the text of an import has its commands as its
 /// lines, one a line: none has a line feed in it, and nothing follows the last line feed.
+#[tactic(auto, using(crate::proofs::Lines::whole_lines))]
 pub fn prints_whole_lines()
     ensures { PrintsWholeLines }
 {}

@@ -20,7 +20,7 @@ mod settings;
 mod text;
 
 pub use fault::{CompetitionFault, EventFault, FilePerson, PersonFault, RoundFault};
-pub use file::{FileFault, import_file};
+pub use file::{FileFault, import_file, without_mark};
 pub use importing::{ImportFault, ImportedCompetition, import};
 pub use later::RoundImport;
 pub use laws::{
@@ -29,4 +29,5 @@ pub use laws::{
 };
 pub use options::{CumulativeLimits, Edition, Options, SameNames};
 pub use quoted::Quoted;
+pub use settings::round_id;
 pub use text::{print_imported, print_lines};

@@ -1,8 +1,7 @@
 //! How deep a JSON value nests.
 
 ghost use Rattle.std.specs.Prelude.{◌≡◌, nat_le};
-ghost use Rattle.serde_json.specs.Data.{depth};
-ghost use Rattle.serde_json.specs.View.{view};
+ghost use Rattle.serde_json.specs.{Data.depth, View.view};
 
 use serde_json::Value;
 

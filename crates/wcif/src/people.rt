@@ -3,10 +3,8 @@
 ghost use Rattle.std.specs.Prelude.{◌≡◌, ◌++◌, ◌∷◌, [], ◌+◌, ◌^◌, ◌<◌, true, List, ℕ, map, length};
 ghost use Rattle.std.specs.Prelude.{IfOk, OnOk, option_map, option_to_list, string_bytes, ◌≤◌};
 ghost use Rattle.std.specs.Prelude.{◌||◌, bytes_eq, Some, find};
-ghost use Rattle.std.specs.HashSet.{contains_text};
-ghost use Rattle.std.specs.List.{list_any};
-ghost use Rattle.serde_json.specs.Data.{Data};
-ghost use Rattle.serde_json.specs.View.{view};
+ghost use Rattle.std.specs.{HashSet.contains_text, List.list_any};
+ghost use Rattle.serde_json.specs.{Data.Data, View.view};
 ghost use Rattle.texts.specs.Numerals.{within};
 ghost use Rattle.wcif.specs.Persons.{is_accepted, is_shared, id_as, with_id, name_as, number_of};
 ghost use Rattle.wcif.specs.Persons.{number_faults, name_faults, has_name, has_number, has_given};
@@ -106,8 +104,7 @@ impl NameCounts {
 
 /// A name, a space and an ID.
 fn with_id(name: String, id: &str) -> Result<String, NoMemory>
-    ensures { IfOk result (λ both. string_bytes both
-        ≡ with_id (string_bytes name) (Some id.now)) }
+    ensures { IfOk result (λ both. string_bytes both ≡ with_id (string_bytes name) (Some id.now)) }
 {
     let mut both = name;
     both.push_str(" ")?;
@@ -234,8 +231,8 @@ impl Names {
 /// What is kept of the accepted persons while they are read.
 #[derive(Drop)]
 pub(crate) struct People<'v> {
-    counts: NameCounts,
-    numbers: Numbers<'v>,
+    pub(crate) counts: NameCounts,
+    pub(crate) numbers: Numbers<'v>,
     names: Names,
 }
 
@@ -274,28 +271,5 @@ impl<'v> People<'v> {
         push_some(&mut faults, self.names.add(name)?)?;
         push_events_faults(&mut faults, events, event_ids(person))?;
         Ok(faults)
-    }
-
-    /// The accepted person with a number.
-    pub(crate) fn numbered(&self, number: u16) -> Option<&'v Value>
-        ensures { (how : Named) (everyone persons : List Data)
-            → AreKept how everyone persons self.now → 1 ≤ number → number ≤ last_number
-            → option_map (λ v. view v.now) result ≡ find (has_number number) persons }
-    {
-        self.numbers.get(number)
-    }
-
-    /// The name that a desk gets.
-    pub(crate) fn name_as(
-        &self,
-        alloc: Global,
-        how: SameNames,
-        person: &Value,
-    ) -> Result<String, NoMemory>
-        ensures { IfOk result (λ name. (everyone persons : List Data)
-            → AreKept how everyone persons self.now
-            → string_bytes name ≡ name_as how everyone (view person.now)) }
-    {
-        self.counts.name_as(alloc, how, person)
     }
 }

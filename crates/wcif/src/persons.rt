@@ -1,11 +1,9 @@
 //! The persons of a competition.
 
 ghost use Rattle.std.specs.Prelude.{◌≡◌, map, option_map, option_and_then, codes};
-ghost use Rattle.serde_json.specs.Find.{get};
-ghost use Rattle.serde_json.specs.View.{view};
-ghost use Rattle.wcif.specs.Members.{text_at};
+ghost use Rattle.serde_json.specs.{Find.get, View.view};
+ghost use Rattle.wcif.specs.{Members.text_at, Persons.wca_id, Persons.event_ids};
 ghost use Rattle.wcif.specs.Persons.{text_of, text_under, is_accepted, number_of, given_name};
-ghost use Rattle.wcif.specs.Persons.{wca_id, event_ids};
 
 use crate::members::{list_at, number_at, text_at};
 use serde_json::Value;
@@ -26,9 +24,8 @@ pub(crate) fn text_under<'v>(value: &'v Value, name: &str) -> &'v str
 
 /// The status of a person's registration; the empty text where there is none.
 fn status(person: &Value) -> Option<&str>
-    ensures { option_map (λ s. s.now) result
-        ≡ option_and_then (text_at (codes "status")) (get (codes "registration") (view
-        person.now)) }
+    ensures { option_map (λ s. s.now) result ≡ option_and_then (text_at (codes "status"))
+        (get (codes "registration") (view person.now)) }
 {
     text_at(person.get("registration")?, "status")
 }

@@ -2,14 +2,12 @@
 
 ghost use Rattle.std.specs.Prelude.{◌≡◌, ◌++◌, ◌≤◌, List, map, flat_map, IfOk, OnOk, option_map};
 ghost use Rattle.std.specs.Prelude.{option_to_list};
-ghost use Rattle.serde_json.specs.Data.{Data};
-ghost use Rattle.serde_json.specs.View.{view};
+ghost use Rattle.serde_json.specs.{Data.Data, View.view};
 ghost use Rattle.formats.specs.Events.{event_of_name};
 ghost use Rattle.wcif.specs.Persons.{text_of, last_number};
 ghost use Rattle.wcif.specs.Commands.{numbered, registered, entering, entered, opened, beginning};
 ghost use Rattle.wcif.specs.Commands.{entering_all, registering, opening, commands_of, numbers};
-ghost use Rattle.wcif.specs.declared.options.SameNames.{SameNames as Named};
-ghost use Rattle.wcif.specs.model.Kept.{AreKept};
+ghost use Rattle.wcif.specs.{declared.options.SameNames.SameNames as Named, model.Kept.AreKept};
 
 use crate::events::{event_named, rounds_of};
 use crate::options::{CumulativeLimits, Edition, Options, SameNames};
@@ -78,7 +76,7 @@ fn push_entered(
         → AreKept how persons persons people.now → 1 ≤ number → number ≤ last_number
         → commands.new.items ≡ commands.old.items ++ entered persons number) }
 {
-    match people.numbered(number) {
+    match people.numbers.get(number) {
         Some(person) => push_person_entries(commands, number, person),
         None => Ok(()),
     }
@@ -109,10 +107,10 @@ fn push_registered(
         → AreKept how persons persons people.now → 1 ≤ number → number ≤ last_number
         → commands.new.items ≡ commands.old.items ++ registered how persons number) }
 {
-    let Some(person) = people.numbered(number) else {
+    let Some(person) = people.numbers.get(number) else {
         return Ok(());
     };
-    let name = people.name_as(alloc, how, person)?;
+    let name = people.counts.name_as(alloc, how, person)?;
     commands.push(Command::Register {
         number,
         name: Name::new(name.into_bytes()),
@@ -127,8 +125,7 @@ fn push_registrations(
     commands: &mut Vec<Command>,
     people: &People<'_>,
 ) -> Result<(), NoMemory>
-    ensures { OnOk result ((persons : List Data)
-        → AreKept how persons persons people.now
+    ensures { OnOk result ((persons : List Data) → AreKept how persons persons people.now
         → commands.new.items ≡ commands.old.items ++ flat_map (registered how persons) numbers) }
 {
     for index in 0..LAST_NUMBER {

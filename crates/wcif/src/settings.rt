@@ -215,7 +215,7 @@ pub(crate) fn settings_in(how: CumulativeLimits, event: Event, round: &Value) ->
 }
 
 /// The id of a round: its event, `-r` and its number.
-pub(crate) fn round_id(alloc: Global, event: Event, round: u8) -> Result<Vec<u8>, NoMemory>
+pub fn round_id(alloc: Global, event: Event, round: u8) -> Result<Vec<u8>, NoMemory>
     ensures { IfOk result (λ id. id.items ≡ round_id event round) }
 {
     let mut id = Vec::new(alloc);

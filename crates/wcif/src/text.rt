@@ -1,8 +1,7 @@
 //! Commands as lines.
 
 ghost use Rattle.std.specs.Prelude.{◌≡◌, ◌++◌, flat_map, IfOk, OnOk};
-ghost use Rattle.wcif.specs.Later.{later_lines};
-ghost use Rattle.wcif.specs.Lines.{line, lines};
+ghost use Rattle.wcif.specs.{Later.later_lines, Lines.line, Lines.lines};
 
 use crate::importing::ImportedCompetition;
 use crate::later::print_later;

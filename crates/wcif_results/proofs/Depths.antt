@@ -1,23 +1,16 @@
 -- How deep a file nests with the results of a meet.
-use Rattle.std.proofs.Common.{◌≡◌, refl, ℕ, suc, ◌≤◌, max, Bool, true, false, cond}
-use Rattle.std.proofs.Common.{List, [], ◌∷◌, ◌++◌, map, flat_map, codes, bytes_eq, arith, Option}
-use Rattle.std.proofs.Common.{Some}
-use Rattle.std.proofs.Common.{None}
-use Rattle.std.specs.Option.{option_map}
-use Rattle.std.specs.Prelude.{option_to_list}
+use Rattle.std.proofs.Common.{◌≡◌, refl, ℕ, suc, ◌≤◌, max, Bool, true, false, cond, List, [], ◌∷◌}
+use Rattle.std.proofs.Common.{◌++◌, map, flat_map, codes, bytes_eq, arith, Option, Some, None}
+use Rattle.std.specs.{Option.option_map, Prelude.option_to_list}
 use Rattle.std.proofs.lemmas.Bool.Decides.{nat_tests}
-use Rattle.json.specs.Json.{Json, null, boolean, number, string, array, object, Items, no_items}
-use Rattle.json.specs.Json.{item, Members, no_members, member}
-use Rattle.json.specs.Tree.{depth, items_depth, members_depth}
-use Rattle.json.specs.Value.{items_of}
+use Rattle.json.specs.Json.{Json, array, object, Items, no_items, item, Members, no_members, member}
+use Rattle.json.specs.{Tree.depth, Tree.items_depth, Tree.members_depth, Value.items_of}
 use Rattle.attempts.specs.declared.Value.{Value}
 use Rattle.rounds.specs.Tables.{Entrant, Table, entrant, standings, place}
-use Rattle.wcif_results.specs.Filled.{members_with, within, items_with, each, members_having}
-use Rattle.wcif_results.specs.Filled.{having}
-use Rattle.wcif_results.specs.Filled.{round_with, filled_round, filled_event, filled_file, id_of}
-use Rattle.wcif_results.specs.MeetRounds.{MeetRound, round_named}
-use Rattle.wcif_results.specs.Results.{attempt_json, ranking_json, result_json}
-use Rattle.wcif_results.specs.Results.{result_of, results_json}
+use Rattle.wcif_results.specs.Filled.{members_with, within, items_with, each, members_having, id_of}
+use Rattle.wcif_results.specs.Filled.{having, round_with, filled_round, filled_event, filled_file}
+use Rattle.wcif_results.specs.{MeetRounds.MeetRound, MeetRounds.round_named, Results.results_json}
+use Rattle.wcif_results.specs.Results.{attempt_json, ranking_json, result_json, result_of}
 
 -- f makes a value at most so deep, or no deeper than it was
 abbrev KeepsDepth : ℕ → (Json → Json) → Type 0
@@ -44,13 +37,8 @@ members_with_depth name f k h (member l j ms) =
 
 within_depth : (name : List ℕ) (f : Json → Json) (k : ℕ) → KeepsDepth k f
     → KeepsDepth (suc k) (within name f)
-within_depth name f k h null = grind (arith, nat_tests)
-within_depth name f k h (boolean b) = grind (arith, nat_tests)
-within_depth name f k h (number s) = grind (arith, nat_tests)
-within_depth name f k h (string s) = grind (arith, nat_tests)
-within_depth name f k h (array js) = grind (arith, nat_tests)
-within_depth name f k h (object ms) =
-    deeper _ _ k (members_with_depth name f k h ms)
+within_depth name f k h (object ms) = deeper _ _ k (members_with_depth name f k h ms)
+within_depth name f k h _ = grind (arith, nat_tests)
 
 items_with_depth : (f : Json → Json) (k : ℕ) → KeepsDepth k f → (js : Items)
     → items_depth (items_with f js) ≤ max (items_depth js) k
@@ -59,12 +47,8 @@ items_with_depth f k h (item j js) =
     joined _ _ _ _ k (h j) (items_with_depth f k h js)
 
 each_depth : (f : Json → Json) (k : ℕ) → KeepsDepth k f → KeepsDepth (suc k) (each f)
-each_depth f k h null = grind (arith, nat_tests)
-each_depth f k h (boolean b) = grind (arith, nat_tests)
-each_depth f k h (number s) = grind (arith, nat_tests)
-each_depth f k h (string s) = grind (arith, nat_tests)
 each_depth f k h (array js) = deeper _ _ k (items_with_depth f k h js)
-each_depth f k h (object ms) = grind (arith, nat_tests)
+each_depth f k h _ = grind (arith, nat_tests)
 
 -- a value under a name
 one_of : (b : Bool) (e j : Json) (k : ℕ) → depth j ≤ k → depth (cond b j e) ≤ max (depth e) k
@@ -82,30 +66,21 @@ members_having_depth name j k h there (member l e ms) =
     go : (b : Bool) → members_depth (members_having true name j ms) ≤ max (members_depth ms) k
         → members_depth (members_having there name j ms) ≤ max (members_depth ms) k
         → members_depth (cond b (member l j (members_having true name j ms))
-        (member l e (members_having there name j ms)))
-        ≤ max (max (depth e) (members_depth ms)) k
+        (member l e (members_having there name j ms))) ≤ max (max (depth e) (members_depth ms)) k
     go true p q = joined _ (depth e) _ _ k (one_of true e j k h) p
     go false p q = joined _ (depth e) _ _ k (one_of false e j k h) q
 
-having_depth : (name : List ℕ) (j : Json) (k : ℕ) → depth j ≤ k
-    → KeepsDepth (suc k) (having name j)
-having_depth name j k h null = grind (arith, nat_tests)
-having_depth name j k h (boolean b) = grind (arith, nat_tests)
-having_depth name j k h (number s) = grind (arith, nat_tests)
-having_depth name j k h (string s) = grind (arith, nat_tests)
-having_depth name j k h (array js) = grind (arith, nat_tests)
+having_depth : (name : List ℕ) (j : Json) (k : ℕ) → depth j ≤ k → KeepsDepth (suc k) (having name j)
 having_depth name j k h (object ms) = deeper _ _ k (members_having_depth name j k h false ms)
+having_depth name j k h _ = grind (arith, nat_tests)
 
 -- The results of a round.
 
 attempts_depth : (vs : List Value) → items_depth (items_of (map attempt_json vs)) ≤ 1
 attempts_depth [] = omega arith
-attempts_depth (v ∷ vs) = let rest = attempts_depth vs in within_one _ rest
-  where
-    within_one : (n : ℕ) → n ≤ 1 → max 1 n ≤ 1
-    within_one n h = grind (arith, nat_tests)
+attempts_depth (v ∷ vs) = let rest = attempts_depth vs in omega (arith, rest)
 
-ranking_depth : (vs : List Value) (n : ℕ) → depth (ranking_json vs n) ≡ 0
+pub ranking_depth : (vs : List Value) (n : ℕ) → depth (ranking_json vs n) ≡ 0
 ranking_depth [] n = refl
 ranking_depth (v ∷ vs) n = refl
 
@@ -115,35 +90,31 @@ result_depth t e =
     go _ (items_depth (items_of (map attempt_json e.values))) (ranking_depth e.values (place t e))
     (attempts_depth e.values)
   where
-    go : (r n : ℕ) → r ≡ 0 → n ≤ 1
-        → suc (max 0 (max r (max (suc n) (max 0 (max 0 0))))) ≤ 3
+    go : (r n : ℕ) → r ≡ 0 → n ≤ 1 → suc (max 0 (max r (max (suc n) (max 0 (max 0 0))))) ≤ 3
     go r n p q = grind (arith, nat_tests)
 
-all_three : (js ks : List Json) → items_depth (items_of js) ≤ 3 → items_depth (items_of ks) ≤ 3
-    → items_depth (items_of (js ++ ks)) ≤ 3
-all_three [] ks p q = q
-all_three (j ∷ js) ks p q =
-    go _ _ _ p (all_three js ks (rest _ _ p) q)
-  where
-    rest : (a b : ℕ) → max a b ≤ 3 → b ≤ 3
-    rest a b h = grind (arith, nat_tests)
+-- lists of values that nest at most so deep
+pub all_within : (k : ℕ) (js ks : List Json) → items_depth (items_of js) ≤ k
+    → items_depth (items_of ks) ≤ k → items_depth (items_of (js ++ ks)) ≤ k
+all_within k [] ks p q = q
+all_within k (j ∷ js) ks p q =
+    let later = all_within k js ks (omega (arith, p)) q in omega (arith, p, later)
 
-    go : (a b c : ℕ) → max a b ≤ 3 → c ≤ 3 → max a c ≤ 3
-    go a b c h k = grind (arith, nat_tests)
+pub lists_within : {X : Type 0} (k : ℕ) (f : X → List Json)
+    → ((x : X) → items_depth (items_of (f x)) ≤ k)
+    → (xs : List X) → items_depth (items_of (flat_map f xs)) ≤ k
+lists_within k f h [] = omega arith
+lists_within k f h (x ∷ xs) =
+    all_within k (f x) (flat_map f xs) (h x) (lists_within k f h xs)
 
-of_entrant : (t : Table) (o : Option Entrant)
-    → items_depth (items_of (option_to_list (option_map (result_json t) o))) ≤ 3
-of_entrant t None = omega arith
-of_entrant t (Some e) = go _ (result_depth t e)
-  where
-    go : (n : ℕ) → n ≤ 3 → max n 0 ≤ 3
-    go n h = grind (arith, nat_tests)
+pub one_within : {X : Type 0} (k : ℕ) (f : X → Json) → ((x : X) → depth (f x) ≤ k) → (o : Option X)
+    → items_depth (items_of (option_to_list (option_map f o))) ≤ k
+one_within k f h None = omega arith
+one_within k f h (Some x) = let here = h x in omega (arith, here)
 
 list_depth : (t : Table) (ns : List ℕ) → items_depth (items_of (flat_map (result_of t) ns)) ≤ 3
-list_depth t [] = omega arith
-list_depth t (n ∷ ns) =
-    all_three (result_of t n) (flat_map (result_of t) ns) (of_entrant t (entrant t n))
-    (list_depth t ns)
+list_depth t =
+    lists_within 3 (result_of t) (λ n. one_within 3 (result_json t) (result_depth t) (entrant t n))
 
 results_depth : (t : Table) → depth (results_json t) ≤ 4
 unfolding results_json
@@ -173,7 +144,4 @@ file_depth rs d =
     (each_depth (filled_event rs) 7 (event_depth rs)) d
 
 pub depth_within : (rs : List MeetRound) (d : Json) → depth d ≤ 64 → depth (filled_file rs d) ≤ 128
-depth_within rs d h = go _ _ (file_depth rs d) h
-  where
-    go : (a b : ℕ) → a ≤ max b 9 → b ≤ 64 → a ≤ 128
-    go a b p q = grind (arith, nat_tests)
+depth_within rs d h = let deep = file_depth rs d in omega (arith, deep, h)

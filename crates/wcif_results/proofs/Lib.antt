@@ -1,13 +1,8 @@
 pub mod Adding
-pub mod Left
-pub mod Lines
-pub mod ListsFound
 pub mod Depths
-pub mod Texts
 pub mod FilledRounds
+pub mod Lines
 pub mod MeetIds
 pub mod Naming
 pub mod Numerals
 pub mod ReadBack
-pub mod Short
-pub mod Staying

@@ -1,29 +1,20 @@
 -- The id of a round is of no other round.
-use Rattle.std.proofs.Common.{◌≡◌, refl, sym, ap, ◌∙◌, ℕ, zero, suc, ◌<◌, ◌≤◌, Bool, true}
-use Rattle.std.proofs.Common.{false, cond, ◌==◌, ◌||◌, List, [], ◌∷◌, ◌++◌, length, flat_map, find}
-use Rattle.std.proofs.Common.{codes, decimal, bytes_eq, arith, Option, Some, None, unwrap_or, subst}
-use Rattle.std.proofs.Common.{length-append, option_map, eqb-true}
-use Rattle.std.specs.Prelude.{option_to_list}
-use Rattle.std.specs.List.{list_any, AllByRecursion}
-use Rattle.std.specs.Str.Parse.{digits_value, AllDigits}
-use Rattle.std.proofs.lemmas.Bool.{false≢true}
-use Rattle.std.proofs.lemmas.Fmt.{digits_value-decimal}
+use Rattle.std.proofs.Common.{◌≡◌, refl, sym, ap, ◌∙◌, ℕ, zero, suc, ◌<◌, ◌≤◌, Bool, true, false}
+use Rattle.std.proofs.Common.{cond, ◌==◌, ◌||◌, List, [], ◌∷◌, ◌++◌, length, flat_map, find, codes}
+use Rattle.std.proofs.Common.{decimal, bytes_eq, arith, Option, Some, None, unwrap_or, subst}
+use Rattle.std.proofs.{Common.length-append, Common.option_map, lemmas.Fmt.digits_value-decimal}
+use Rattle.std.{proofs.Common.eqb-true, specs.Str.Parse.digits_value, specs.Str.Parse.AllDigits}
+use Rattle.wcif.{proofs.Found.found_by, proofs.Found.found_some, specs.Rounds.round_id}
+use Rattle.std.proofs.lemmas.{Slice.Eq.bytes_eq-Decides, List.Folds.list_any-append}
+use Rattle.std.specs.{Prelude.option_to_list, List.list_any, List.AllByRecursion}
+use Rattle.std.proofs.lemmas.Bool.{false≢true, or_left, or_right}
 use Rattle.std.proofs.lemmas.Str.Parse.{IsNumeralModel, numerals_by_value, tells_digits}
-use Rattle.std.proofs.lemmas.Slice.Eq.{bytes_eq-Decides}
-use Rattle.formats.specs.declared.events.Event.{Event}
-use Rattle.formats.specs.declared.events.Event.TheVariants.{Cube3, Cube2, Cube4, Cube5, Cube6}
-use Rattle.formats.specs.declared.events.Event.TheVariants.{Cube7, Blind3, FewestMoves, OneHanded}
-use Rattle.formats.specs.declared.events.Event.TheVariants.{Clock, Megaminx, Pyraminx, Skewb}
-use Rattle.formats.specs.declared.events.Event.TheVariants.{Square1, Blind4, Blind5, MultiBlind}
+use Rattle.formats.specs.declared.events.Event.{Event, TheVariants.Cube3}
 use Rattle.formats.specs.Events.{all_events, event_name, same_event, event_of_name}
-use Rattle.formats.proofs.Naming.{only_name-event}
-use Rattle.formats.proofs.SameEvent.{same_event-equal}
+use Rattle.formats.proofs.{Naming.only_name-event, SameEvent.same_event-equal}
 use Rattle.rounds.specs.Tables.{Table}
-use Rattle.texts.specs.declared.command.Command.{Command}
-use Rattle.texts.specs.declared.command.Settings.{Settings}
-use Rattle.commands.specs.Accepted.{round_of}
-use Rattle.commands.proofs.Sizes.{all_append}
-use Rattle.wcif.specs.Rounds.{round_id}
+use Rattle.texts.specs.declared.command.{Command.Command, Settings.Settings}
+use Rattle.commands.{specs.Accepted.round_of, proofs.Sizes.all_append, proofs.Sizes.all_flat_map}
 use Rattle.wcif_results.specs.MeetRounds.{MeetRound, meet_round, round_at, round_numbers}
 use Rattle.wcif_results.specs.MeetRounds.{event_rounds, meet_rounds, round_named}
 
@@ -43,41 +34,11 @@ back (x ∷ xs) = cond (x == 45) xs (back xs)
 
 front_id : (e : Event) (n : ℕ) → front (round_id e n) ≡ event_name e
 front_id Cube3 n = refl
-front_id Cube2 n = refl
-front_id Cube4 n = refl
-front_id Cube5 n = refl
-front_id Cube6 n = refl
-front_id Cube7 n = refl
-front_id Blind3 n = refl
-front_id FewestMoves n = refl
-front_id OneHanded n = refl
-front_id Clock n = refl
-front_id Megaminx n = refl
-front_id Pyraminx n = refl
-front_id Skewb n = refl
-front_id Square1 n = refl
-front_id Blind4 n = refl
-front_id Blind5 n = refl
-front_id MultiBlind n = refl
+front_id _ n = refl
 
 back_id : (e : Event) (n : ℕ) → back (round_id e n) ≡ 114 ∷ decimal n
 back_id Cube3 n = refl
-back_id Cube2 n = refl
-back_id Cube4 n = refl
-back_id Cube5 n = refl
-back_id Cube6 n = refl
-back_id Cube7 n = refl
-back_id Blind3 n = refl
-back_id FewestMoves n = refl
-back_id OneHanded n = refl
-back_id Clock n = refl
-back_id Megaminx n = refl
-back_id Pyraminx n = refl
-back_id Skewb n = refl
-back_id Square1 n = refl
-back_id Blind4 n = refl
-back_id Blind5 n = refl
-back_id MultiBlind n = refl
+back_id _ n = refl
 
 pub id_nonempty : (e : Event) (n : ℕ) → 0 < length (round_id e n)
 id_nonempty e n =
@@ -96,18 +57,10 @@ same_name e f h =
 id_event : (e f : Event) (m n : ℕ) → round_id e m ≡ round_id f n → e ≡ f
 id_event e f m n h = same_name e f (sym (front_id e m) ∙ ap front h ∙ front_id f n)
 
-tail_of : List ℕ → List ℕ
-tail_of [] = []
-tail_of (x ∷ xs) = xs
-
-same_tail : (m n : ℕ) → 114 ∷ decimal m ≡ 114 ∷ decimal n → decimal m ≡ decimal n
-unfolding tail_of
-same_tail m n h = ap tail_of h
-
 id_number : (e f : Event) (m n : ℕ) → m ≤ 4 → n ≤ 4 → round_id e m ≡ round_id f n → m ≡ n
 id_number e f m n few_m few_n h =
-    let same : decimal m ≡ decimal n =
-    same_tail m n (sym (back_id e m) ∙ ap back h ∙ back_id f n) in
+    let ids : 114 ∷ decimal m ≡ 114 ∷ decimal n = sym (back_id e m) ∙ ap back h ∙ back_id f n in
+    let same : decimal m ≡ decimal n = cc in
     sym (digits_value-decimal own m (omega arith)) ∙ ap (digits_value 10) same
     ∙ digits_value-decimal own n (omega arith)
 
@@ -137,38 +90,11 @@ of_event cs e =
     (all_append (IsRound cs) (round_at cs e 3) _ (at_number cs e 3 (omega arith))
     (all_append (IsRound cs) (round_at cs e 4) _ (at_number cs e 4 (omega arith)) tt)))
 
-of_events : (cs : List Command) (es : List Event)
-    → AllByRecursion (IsRound cs) (flat_map (event_rounds cs) es)
-of_events cs [] = tt
-of_events cs (e ∷ es) =
-    all_append (IsRound cs) (event_rounds cs e) (flat_map (event_rounds cs) es) (of_event cs e)
-    (of_events cs es)
-
 pub are_rounds : (cs : List Command) → AllByRecursion (IsRound cs) (meet_rounds cs)
 unfolding meet_rounds
-are_rounds cs = of_events cs all_events
+are_rounds cs = all_flat_map (IsRound cs) (event_rounds cs) (of_event cs) all_events
 
 -- A round that was opened is among them
-
-any_append : {X : Type 0} (p : X → Bool) (xs ys : List X) → list_any p ys ≡ true
-    → list_any p (xs ++ ys) ≡ true
-any_append p [] ys h = h
-any_append {X} p (x ∷ xs) ys h = go (p x) (any_append p xs ys h)
-  where
-    go : (b : Bool) → list_any p (xs ++ ys) ≡ true → (b || list_any p (xs ++ ys)) ≡ true
-    go true k = refl
-    go false k = k
-
-any_front : {X : Type 0} (p : X → Bool) (xs ys : List X) → list_any p xs ≡ true
-    → list_any p (xs ++ ys) ≡ true
-any_front p [] ys h = absurd (false≢true h)
-any_front {X} p (x ∷ xs) ys h = go (p x) h (any_front p xs ys)
-  where
-    go : (b : Bool) → (b || list_any p xs) ≡ true
-        → (list_any p xs ≡ true → list_any p (xs ++ ys) ≡ true)
-        → (b || list_any p (xs ++ ys)) ≡ true
-    go true h later = refl
-    go false h later = later h
 
 any_flat_map : {X Y : Type 0} (p : Y → Bool) (f : X → List Y) (q : X → Bool)
     → ((x : X) → q x ≡ true → list_any p (f x) ≡ true) → (xs : List X) → list_any q xs ≡ true
@@ -179,27 +105,12 @@ any_flat_map {X} {Y} p f q each (x ∷ xs) h = go (q x) refl h (any_flat_map p f
     go : (b : Bool) → q x ≡ b → (b || list_any q xs) ≡ true
         → (list_any q xs ≡ true → list_any p (flat_map f xs) ≡ true)
         → list_any p (f x ++ flat_map f xs) ≡ true
-    go true is h later = any_front p (f x) (flat_map f xs) (each x is)
-    go false is h later = any_append p (f x) (flat_map f xs) (later h)
+    go true is h later = list_any-append p (f x) (flat_map f xs) ∙ or_left _ _ (each x is)
+    go false is h later = list_any-append p (f x) (flat_map f xs) ∙ or_right _ _ (later h)
 
 event_there : (e : Event) → list_any (λ f. same_event e f) all_events ≡ true
 event_there Cube3 = refl
-event_there Cube2 = refl
-event_there Cube4 = refl
-event_there Cube5 = refl
-event_there Cube6 = refl
-event_there Cube7 = refl
-event_there Blind3 = refl
-event_there FewestMoves = refl
-event_there OneHanded = refl
-event_there Clock = refl
-event_there Megaminx = refl
-event_there Pyraminx = refl
-event_there Skewb = refl
-event_there Square1 = refl
-event_there Blind4 = refl
-event_there Blind5 = refl
-event_there MultiBlind = refl
+event_there _ = refl
 
 number_there : (n : ℕ) → 1 ≤ n → n ≤ 4 → list_any (λ m. n == m) round_numbers ≡ true
 number_there zero h k = absurd (omega arith)
@@ -214,9 +125,7 @@ has_id id r = bytes_eq r.id id
 
 at_its_number : (cs : List Command) (e : Event) (n : ℕ) (x : Settings × Table)
     → round_of cs e n ≡ Some x → list_any (has_id (round_id e n)) (round_at cs e n) ≡ true
-at_its_number cs e n x is =
-    ap (λ o. list_any (has_id (round_id e n)) (option_to_list (option_map (meet_round e n) o))) is
-    ∙ ap (λ b. b || false) ((bytes_eq-Decides (round_id e n) (round_id e n)).1 refl)
+at_its_number cs e n x is = rw (is, (bytes_eq-Decides (round_id e n) (round_id e n)).1 refl) refl
 
 in_its_event : (cs : List Command) (e : Event) (n : ℕ) (x : Settings × Table) → 1 ≤ n → n ≤ 4
     → round_of cs e n ≡ Some x → list_any (has_id (round_id e n)) (event_rounds cs e) ≡ true
@@ -224,8 +133,7 @@ in_its_event cs e n x low high is =
     any_flat_map (has_id (round_id e n)) (round_at cs e) (λ m. n == m)
     (λ m same. let number : n ≡ m = eqb-true n m same in
     let P : ℕ → Type 0 = λ k. list_any (has_id (round_id e n)) (round_at cs e k) ≡ true in
-    subst P number (at_its_number cs e n x is))
-    round_numbers (number_there n low high)
+    subst P number (at_its_number cs e n x is)) round_numbers (number_there n low high)
 
 pub in_meet : (cs : List Command) (e : Event) (n : ℕ) (x : Settings × Table) → 1 ≤ n → n ≤ 4
     → round_of cs e n ≡ Some x → list_any (has_id (round_id e n)) (meet_rounds cs) ≡ true
@@ -234,39 +142,17 @@ in_meet cs e n x low high is =
     any_flat_map (has_id (round_id e n)) (event_rounds cs) (λ f. same_event e f)
     (λ f same. let event : e ≡ f = same_event-equal e f same in
     let P : Event → Type 0 = λ g. list_any (has_id (round_id e n)) (event_rounds cs g) ≡ true in
-    subst P event (in_its_event cs e n x low high is))
-    all_events (event_there e)
+    subst P event (in_its_event cs e n x low high is)) all_events (event_there e)
 
 -- and its id finds it
 
-record Finds {X : Type 0} (P : X → Type 0) (p : X → Bool) (xs : List X) : Type 0 where
-  pub one : X
-  pub found : find p xs ≡ Some one
-  pub passes : p one ≡ true
-  pub holds : P one
-
-find_one : {X : Type 0} (P : X → Type 0) (p : X → Bool) (xs : List X) → AllByRecursion P xs
-    → list_any p xs ≡ true → Finds P p xs
-find_one P p [] all h = absurd (false≢true h)
-find_one {X} P p (x ∷ xs) all h = go (p x) refl h (find_one P p xs all.1)
-  where
-    go : (b : Bool) → p x ≡ b → (b || list_any p xs) ≡ true
-        → (list_any p xs ≡ true → Finds P p xs) → Finds P p (x ∷ xs)
-    go true is h later =
-        record {
-          one = x;
-          found = ap (λ b. cond b (Some x) (find p xs)) is;
-          passes = is;
-          holds = all.0;
-        }
-    go false is h later =
-        let rest = later h in
-        record {
-          one = rest.one;
-          found = ap (λ b. cond b (Some x) (find p xs)) is ∙ rest.found;
-          passes = rest.passes;
-          holds = rest.holds;
-        }
+pub found_holds : {X : Type 0} (P : X → Type 0) (p : X → Bool) (xs : List X) (x : X)
+    → AllByRecursion P xs → find p xs ≡ Some x → P x × (p x ≡ true)
+found_holds P p [] x all h = absurd (cc)
+found_holds {X} P p (y ∷ ys) x all h =
+    let Q : X → Type 0 = λ z. P z × (p z ≡ true) in
+    found_by (p y) y x (find p ys) h (λ is same. subst Q same (all.0, is))
+    (found_holds P p ys x all.1)
 
 -- the round with an id has the table of the round
 pub record Named (cs : List Command) (e : Event) (n : ℕ) (t : Table) : Type 0 where
@@ -277,17 +163,14 @@ pub record Named (cs : List Command) (e : Event) (n : ℕ) (t : Table) : Type 0 
 pub its_round : (cs : List Command) (e : Event) (n : ℕ) (x : Settings × Table) → 1 ≤ n → n ≤ 4
     → round_of cs e n ≡ Some x → Named cs e n x.1
 its_round cs e n x low high is =
-    let it = find_one (IsRound cs) (has_id (round_id e n)) (meet_rounds cs) (are_rounds cs)
-    (in_meet cs e n x low high is) in
-    let r = it.one in
+    let it = found_some (has_id (round_id e n)) (meet_rounds cs) (in_meet cs e n x low high is) in
+    let r = it.0 in
+    let holds = found_holds (IsRound cs) (has_id (round_id e n)) (meet_rounds cs) r
+    (are_rounds cs) it.1 in
     let ids : round_id r.event r.number ≡ round_id e n =
-    sym it.holds.id ∙ (bytes_eq-Decides r.id (round_id e n)).0 it.passes in
+    sym holds.0.id ∙ (bytes_eq-Decides r.id (round_id e n)).0 holds.1 in
     let event : r.event ≡ e = id_event r.event e r.number n ids in
-    let number : r.number ≡ n = id_number r.event e r.number n it.holds.few high ids in
-    let both : Some (it.holds.settings, r.table) ≡ Some x =
-    sym it.holds.opened ∙ ap (λ f. round_of cs f r.number) event
-    ∙ ap (λ m. round_of cs e m) number ∙ is in
-    record { round = r; named = it.found; table = same_table it.holds.settings r.table x both }
-  where
-    same_table : (s : Settings) (t : Table) (y : Settings × Table) → Some (s, t) ≡ Some y → t ≡ y.1
-    same_table s t y h = ap (λ o. (unwrap_or o y).1) h
+    let number : r.number ≡ n = id_number r.event e r.number n holds.0.few high ids in
+    let both : Some (holds.0.settings, r.table) ≡ Some x = sym holds.0.opened
+    ∙ ap (λ f. round_of cs f r.number) event ∙ ap (λ m. round_of cs e m) number ∙ is in
+    record { round = r; named = it.1; table = ap (λ o. (unwrap_or o x).1) both }

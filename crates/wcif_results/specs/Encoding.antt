@@ -4,10 +4,9 @@
 -- the number 0DDTTTTTMM. -1 is DNF, -2 is DNS, and 0 says that there is no result.
 use Rattle.std.specs.Prelude.{ℤ, pos, negsuc, List, [], ◌∷◌}
 use Rattle.attempts.specs.declared.Value.{Value}
+use Rattle.formats.specs.{declared.results.Averaged.Averaged, Results.best_of}
 use Rattle.attempts.specs.declared.Value.TheVariants as value
-use Rattle.formats.specs.declared.results.Averaged.{Averaged}
 use Rattle.formats.specs.declared.results.Averaged.TheVariants as averaged
-use Rattle.formats.specs.Results.{best_of}
 
 -- an attempt that is done
 abbrev pub attempt_result : Value → ℤ

@@ -1,20 +1,18 @@
 -- What of a meet a competition's file has no place for: a round with a result that it lacks, and an
 -- entrant who is none of its accepted persons, by his number or by each name that he was given (the
 -- project's own).
-use Rattle.std.specs.Prelude.{ℕ, if◌then◌else◌, List, [], ◌∷◌, ◌++◌, map, flat_map, codes, decimal}
+use Rattle.std.specs.Prelude.{ℕ, if◌then◌else◌, List, [], ◌∷◌, map, flat_map, codes, decimal, None}
 use Rattle.std.specs.Prelude.{bytes_eq, Bool, true, false, ◌&&◌, ◌||◌, unwrap_or, find, is_some}
-use Rattle.std.specs.Prelude.{Option, None, Some}
-use Rattle.std.specs.Option.{option_and_then, option_map}
+use Rattle.std.specs.{Prelude.Option, Prelude.Some, Option.option_and_then, Option.option_map}
 use Rattle.json.specs.Json.{Json, Items, no_items, item}
 use Rattle.json.specs.Find.{get, as_array, as_number, as_str}
 use Rattle.commands.specs.Accepted.{name_of}
 use Rattle.rounds.specs.Tables.{is_attempted, standings}
 use Rattle.texts.specs.declared.command.Command.{Command}
-use Rattle.wcif_results.specs.declared.fault.MeetFault.{MeetFault}
-use Rattle.wcif_results.specs.declared.fault.MeetFault.TheVariants as fault
-use Rattle.wcif_results.specs.Filled.{id_of, text_under}
+use Rattle.wcif_results.specs.{declared.fault.MeetFault.MeetFault, Filled.id_of, Filled.text_under}
 use Rattle.wcif_results.specs.MeetRounds.{MeetRound, meet_rounds}
 use Rattle.wcif_results.specs.Names.{is_called, names_given}
+use Rattle.wcif_results.specs.declared.fault.MeetFault.TheVariants as fault
 
 abbrev pub listed : Items → List Json
 listed no_items = []
@@ -39,8 +37,7 @@ round_with_id id es = find (λ e. bytes_eq e.0 id) es
 -- the status of a person's registration; the empty text where there is none
 abbrev pub status_of : Json → List ℕ
 status_of p =
-    unwrap_or
-    (option_and_then as_str
+    unwrap_or (option_and_then as_str
     (option_and_then (get (codes "status")) (get (codes "registration") p))) []
 
 -- the registration is neither pending nor deleted

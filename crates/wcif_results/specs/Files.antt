@@ -1,18 +1,13 @@
 -- A competition's file read, and written with the results of a meet (the project's own).
 use Rattle.std.specs.Prelude.{◌≡◌, ◌≢◌, ◌≤◌, ◌<◌, ℕ, List, [], length, Some, None}
 use Rattle.std.specs.Str.{IsUtf8}
-use Rattle.json.specs.Json.{Json, document}
-use Rattle.json.specs.Print.{print}
-use Rattle.json.specs.Tree.{depth, json_tokens}
+use Rattle.json.specs.{Json.Json, Json.document, Print.print, Tree.depth, Tree.json_tokens}
 use Rattle.texts.specs.declared.command.Command.{Command}
 use Rattle.wcif.specs.Files.{most_bytes, most_levels, without_mark}
-use Rattle.wcif_results.specs.declared.exporting.ExportFault.{ExportFault}
+use Rattle.wcif_results.specs.{declared.exporting.ExportFault.ExportFault, Faults.faults}
 use Rattle.wcif_results.specs.declared.exporting.ExportFault.TheVariants.{TooLong, NotJson, TooDeep}
 use Rattle.wcif_results.specs.declared.exporting.ExportFault.TheVariants.{Refused, NoMemory}
-use Rattle.wcif_results.specs.Faults.{faults}
-use Rattle.wcif_results.specs.Filled.{filled}
-use Rattle.wcif_results.specs.Notes.{notes}
-use Rattle.wcif_results.specs.declared.note.ExportNote.{ExportNote}
+use Rattle.wcif_results.specs.{Filled.filled, Notes.notes, declared.note.ExportNote.ExportNote}
 
 -- the file is within the limits, and this is its JSON value
 pub record Holds (bytes : List ℕ) (d : Json) : Type 0 where
@@ -39,11 +34,8 @@ HasNotes cs bytes told =
 
 -- the fault says that the file is no JSON
 abbrev pub IsNotJson : ExportFault → Type 0
-IsNotJson TooLong = ⊥
 IsNotJson (NotJson line column) = Unit {0}
-IsNotJson TooDeep = ⊥
-IsNotJson (Refused found) = ⊥
-IsNotJson NoMemory = ⊥
+IsNotJson _ = ⊥
 
 -- why nothing is exported
 abbrev pub ExportFails : List Command → List ℕ → ExportFault → Type 0

@@ -2,11 +2,9 @@
 -- round that the meet has are those of the meet (the project's own). Every other member is as it
 -- was, in its place: a number with its spelling, a text with its characters, an object with its
 -- members in order, those that come twice included.
-use Rattle.std.specs.Prelude.{ℕ, Bool, true, false, if◌then◌else◌, List, [], codes, bytes_eq}
-use Rattle.std.specs.Prelude.{Option, Some, None, unwrap_or}
-use Rattle.std.specs.Option.{option_and_then}
-use Rattle.json.specs.Json.{Json, null, boolean, number, string, array, object, Items, no_items}
-use Rattle.json.specs.Json.{item, Members, no_members, member}
+use Rattle.std.specs.Prelude.{ℕ, Bool, true, false, if◌then◌else◌, List, [], codes, bytes_eq, Some}
+use Rattle.std.specs.{Prelude.Option, Prelude.None, Prelude.unwrap_or, Option.option_and_then}
+use Rattle.json.specs.Json.{Json, array, object, Items, no_items, item, Members, no_members, member}
 use Rattle.json.specs.Find.{get, as_str}
 use Rattle.texts.specs.declared.command.Command.{Command}
 use Rattle.wcif_results.specs.MeetRounds.{MeetRound, meet_rounds, round_named}
@@ -24,12 +22,8 @@ members_with name f (member k j ms) =
 
 -- an object, with f of the values under a name; any other value as it is
 abbrev pub within : List ℕ → (Json → Json) → Json → Json
-within name f null = null
-within name f (boolean b) = boolean b
-within name f (number s) = number s
-within name f (string s) = string s
-within name f (array js) = array js
 within name f (object ms) = object (members_with name f ms)
+within name f d = d
 
 abbrev pub items_with : (Json → Json) → Items → Items
 items_with f no_items = no_items
@@ -37,12 +31,8 @@ items_with f (item j js) = item (f j) (items_with f js)
 
 -- a list, with f of its items; any other value as it is
 abbrev pub each : (Json → Json) → Json → Json
-each f null = null
-each f (boolean b) = boolean b
-each f (number s) = number s
-each f (string s) = string s
 each f (array js) = array (items_with f js)
-each f (object ms) = object ms
+each f d = d
 
 -- the members, with j under a name: in each place that has the name, or at the end where none has
 -- it. There is a place in front where `there` is true.
@@ -54,12 +44,8 @@ members_having there name j (member k e ms) =
 
 -- an object, with j under a name; any other value as it is
 abbrev pub having : List ℕ → Json → Json → Json
-having name j null = null
-having name j (boolean b) = boolean b
-having name j (number s) = number s
-having name j (string s) = string s
-having name j (array js) = array js
 having name j (object ms) = object (members_having false name j ms)
+having name j d = d
 
 -- a text under a name; the empty text where there is none
 abbrev pub text_under : List ℕ → Json → List ℕ

@@ -1,27 +1,19 @@
 -- What a reader finds in the file that an export wrote: the results of a round are what its sheet
 -- has, and all else is what it was (the project's own).
-use Rattle.std.specs.Prelude.{◌≡◌, ℕ, ℤ, pos, neg_ℤ, if◌then◌else◌, ◌==◌, List, [], ◌∷◌, map}
-use Rattle.std.specs.Prelude.{codes, bytes_eq, Option, Some, None, unwrap_or, true, drop}
-use Rattle.std.specs.Prelude.{slice_index, flat_map, option_to_list}
-use Rattle.std.specs.List.{list_any, AllByRecursion}
-use Rattle.std.specs.Option.{option_and_then, option_map}
-use Rattle.std.specs.Str.Parse.{digits_value}
-use Rattle.json.specs.Json.{Json, null, boolean, number, string, array, object, Members}
-use Rattle.json.specs.Json.{no_members, member, document}
+use Rattle.std.specs.Prelude.{◌≡◌, ℕ, ℤ, pos, neg_ℤ, if◌then◌else◌, ◌==◌, List, [], ◌∷◌, map, codes}
+use Rattle.std.specs.Prelude.{bytes_eq, Option, Some, None, unwrap_or, true, drop, slice_index}
+use Rattle.std.specs.{Prelude.flat_map, List.list_any, List.AllByRecursion, Str.Parse.digits_value}
+use Rattle.std.specs.{Prelude.option_to_list, Option.option_and_then, Option.option_map}
+use Rattle.json.specs.Json.{Json, object, Members, no_members, member, document}
 use Rattle.json.specs.Find.{get, as_number}
 use Rattle.attempts.specs.declared.Value.{Value}
-use Rattle.formats.specs.declared.events.Event.{Event}
-use Rattle.formats.specs.Results.{average_of}
+use Rattle.formats.specs.{declared.events.Event.Event, Results.average_of}
 use Rattle.rounds.specs.Tables.{Entrant, Table, entrant, is_attempted, place, standings}
-use Rattle.texts.specs.declared.command.Command.{Command}
-use Rattle.texts.specs.declared.command.Settings.{Settings}
-use Rattle.commands.specs.Accepted.{round_of}
-use Rattle.commands.specs.History.{history}
-use Rattle.wcif.specs.Files.{without_mark}
-use Rattle.wcif.specs.Rounds.{round_id}
+use Rattle.texts.specs.declared.command.{Command.Command, Settings.Settings}
+use Rattle.commands.specs.{Accepted.round_of, History.history}
+use Rattle.wcif.specs.{Files.without_mark, Rounds.round_id}
 use Rattle.wcif_results.specs.Encoding.{attempt_result, best_result, average_result}
-use Rattle.wcif_results.specs.Faults.{file_rounds, items_under}
-use Rattle.wcif_results.specs.Files.{Exports}
+use Rattle.wcif_results.specs.{Faults.file_rounds, Faults.items_under, Files.Exports}
 use Rattle.wcif_results.specs.Filled.{each, id_of, within}
 
 -- Reading
@@ -92,8 +84,7 @@ HasResults t id d =
 -- a file has a round with this id, at least where the table has a result, and its results are those
 -- of the table
 pub record HasRound (d : Json) (id : List ℕ) (t : Table) : Type 0 where
-  pub there :
-      is_attempted t 1 ≡ true → list_any (λ e. bytes_eq (id_of e) id) (file_rounds d) ≡ true
+  pub there : is_attempted t 1 ≡ true → list_any (λ e. bytes_eq (id_of e) id) (file_rounds d) ≡ true
   pub results : AllByRecursion (HasResults t id) (file_rounds d)
 
 -- what an export writes of a round, read back, is what the sheet has, in the sheet's order: of
@@ -116,12 +107,8 @@ members_without name (member k j ms) =
 
 -- an object without the members under a name; any other value as it is
 abbrev pub without : List ℕ → Json → Json
-without name null = null
-without name (boolean b) = boolean b
-without name (number s) = number s
-without name (string s) = string s
-without name (array js) = array js
 without name (object ms) = object (members_without name ms)
+without name d = d
 
 -- a file without the results of its rounds
 unfoldable pub emptied : Json → Json

@@ -1,12 +1,10 @@
 -- The rounds of a meet, with their ids in a file of the WCA Competition Interchange Format.
 use Rattle.std.specs.Prelude.{ℕ, List, [], ◌∷◌, flat_map, find, bytes_eq, option_to_list, Option}
 use Rattle.std.specs.Option.{option_map}
-use Rattle.formats.specs.declared.events.Event.{Event}
-use Rattle.formats.specs.declared.events.Format.{Format}
+use Rattle.formats.specs.declared.events.{Event.Event, Format.Format}
 use Rattle.formats.specs.Events.{all_events}
 use Rattle.rounds.specs.Tables.{Table}
-use Rattle.texts.specs.declared.command.Command.{Command}
-use Rattle.texts.specs.declared.command.Settings.{Settings}
+use Rattle.texts.specs.declared.command.{Command.Command, Settings.Settings}
 use Rattle.commands.specs.Accepted.{round_of}
 use Rattle.wcif.specs.Rounds.{round_id}
 

@@ -5,11 +5,10 @@
 use Rattle.std.specs.Prelude.{◌≡◌, ℕ, ◌+◌, ◌-◌, ◌*◌, ◌/◌, ◌%◌, ◌^◌, List, [], ◌∷◌, ◌++◌, take, drop}
 use Rattle.std.specs.Prelude.{length, if◌then◌else◌, Option, zero, suc, true}
 use Rattle.std.specs.Str.Parse.{digits_value}
-use Rattle.attempts.specs.declared.Outcome.{Outcome}
+use Rattle.attempts.specs.{declared.Outcome.Outcome, MultiLaws.Multi}
+use Rattle.attempts.specs.Attempts.{value_of, IsOutcome, is_multi_finished}
 use Rattle.attempts.specs.declared.Outcome.TheVariants as outcome
 use Rattle.attempts.specs.declared.Value.TheVariants as value
-use Rattle.attempts.specs.Attempts.{value_of, IsOutcome, is_multi_finished}
-use Rattle.attempts.specs.MultiLaws.{Multi}
 
 -- this many of the last decimal digits of a number
 abbrev pub last_digits : ℕ → ℕ → List ℕ
@@ -35,8 +34,7 @@ outcome_of r = outcome.Multi r.solved r.attempted r.seconds
 -- every result of edition 2 counts as the number of its ten digits where it is no DNF
 abbrev pub NumbersAreTheWcas : Type 0
 NumbersAreTheWcas =
-    (r : Multi) (limit : Option ℕ) → IsOutcome (outcome_of r)
-    → value_of limit (outcome_of r)
+    (r : Multi) (limit : Option ℕ) → IsOutcome (outcome_of r) → value_of limit (outcome_of r)
     ≡ (if is_multi_finished r.solved r.attempted
     then value.Number (digits_value 10 (ten_digits r)) else value.Dnf)
 

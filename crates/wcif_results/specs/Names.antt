@@ -4,14 +4,11 @@ use Rattle.std.specs.Prelude.{ℕ, Bool, ◌==◌, ◌&&◌, ◌||◌, List, [],
 use Rattle.std.specs.Prelude.{flat_map, option_to_list, Option, Result, Ok, Err}
 use Rattle.std.specs.List.{list_any}
 use Rattle.json.specs.Json.{Json}
-use Rattle.texts.specs.declared.answer.Answer.{Answer}
-use Rattle.texts.specs.declared.answer.Answer.TheVariants.{Done, Refused}
-use Rattle.texts.specs.declared.command.Command.{Command}
+use Rattle.texts.specs.declared.answer.Answer.{Answer, TheVariants.Done, TheVariants.Refused}
+use Rattle.texts.specs.declared.command.{Command.Command, RemarkedCommand.RemarkedCommand}
 use Rattle.texts.specs.declared.command.Command.TheVariants.{Register, Rename}
-use Rattle.texts.specs.declared.command.RemarkedCommand.{RemarkedCommand}
 use Rattle.texts.specs.declared.reading.CommandFault.{CommandFault}
-use Rattle.wcif_results.specs.declared.named_meet.GivenName.{GivenName}
-use Rattle.wcif_results.specs.Filled.{text_under}
+use Rattle.wcif_results.specs.{declared.named_meet.GivenName.GivenName, Filled.text_under}
 
 abbrev pub naming : Command → List GivenName
 naming (Register n name) = record { number = n; name = name } ∷ []

@@ -7,10 +7,9 @@ use Rattle.json.specs.Json.{Json}
 use Rattle.formats.specs.declared.events.Format.{Format}
 use Rattle.formats.specs.declared.events.Format.TheVariants.{Ao5, Mo3, Bo1, Bo2, Bo3}
 use Rattle.texts.specs.declared.command.Command.{Command}
-use Rattle.wcif_results.specs.declared.note.ExportNote.{ExportNote}
+use Rattle.wcif_results.specs.{declared.note.ExportNote.ExportNote, Faults.file_rounds, Faults.held}
+use Rattle.wcif_results.specs.{Faults.round_with_id, MeetRounds.MeetRound, MeetRounds.meet_rounds}
 use Rattle.wcif_results.specs.declared.note.ExportNote.TheVariants as note
-use Rattle.wcif_results.specs.Faults.{file_rounds, held, round_with_id}
-use Rattle.wcif_results.specs.MeetRounds.{MeetRound, meet_rounds}
 
 -- a format as a file has it
 abbrev pub format_text : Format → List ℕ

@@ -2,8 +2,7 @@
 -- https://github.com/thewca/wcif, specification.md): one for each entrant, in the order of the
 -- round's standings. An entrant without an attempt has no ranking, no best and no average.
 use Rattle.std.specs.Prelude.{ℕ, ℤ, List, [], ◌∷◌, map, flat_map, codes, decimal, option_to_list}
-use Rattle.std.specs.Fmt.{signed_decimal}
-use Rattle.std.specs.Option.{option_map}
+use Rattle.std.specs.{Fmt.signed_decimal, Option.option_map}
 use Rattle.json.specs.Json.{Json, null, number, array, object, Members, no_members, member}
 use Rattle.json.specs.Value.{items_of}
 use Rattle.attempts.specs.declared.Value.{Value}

@@ -1,12 +1,10 @@
 //! A competition's file with the results of a meet.
 
 ghost use Rattle.std.specs.Prelude.{◌≡◌, ◌≤◌, map, IfOk, IfErr};
-ghost use Rattle.json.specs.Tree.{HasNumbers, depth};
-ghost use Rattle.json.specs.Value.{value_view};
-ghost use Rattle.wcif.specs.Files.{without_mark, most_levels};
+ghost use Rattle.json.specs.{Tree.HasNumbers, Tree.depth, Value.value_view};
+ghost use Rattle.wcif.specs.Files.{most_levels};
 ghost use Rattle.wcif_results.specs.Files.{IsTextOf, IsNotJson, Exports, ExportFails, HasNotes};
-ghost use Rattle.wcif_results.specs.Filled.{filled_file};
-ghost use Rattle.wcif_results.specs.model.Opened.{round_view};
+ghost use Rattle.wcif_results.specs.{Filled.filled_file, model.Opened.round_view};
 
 use crate::fault::MeetFault;
 use crate::faults::faults_of;
@@ -19,6 +17,7 @@ use crate::notes::notes_of;
 use attempts::NoMemory;
 use json::{Error, Scratch, Value, Writer};
 use std::alloc::{AllocError, Global};
+use wcif::without_mark;
 
 /// The most bytes of a file: 64 MiB.
 const MOST_BYTES: usize = 67_108_864;
@@ -56,17 +55,6 @@ impl From<AllocError> for ExportFault {
 
     fn from(_: AllocError) -> ExportFault {
         ExportFault::NoMemory
-    }
-}
-
-/// The file without a byte-order mark at the front.
-#[tactic(auto, unfolding(wcif::specs::Files::without_mark))]
-fn without_mark(bytes: &[u8]) -> &[u8]
-    ensures { result.now ≡ without_mark bytes.now }
-{
-    match bytes.strip_prefix(b"\xef\xbb\xbf".as_slice()) {
-        Some(rest) => rest,
-        None => bytes,
     }
 }
 

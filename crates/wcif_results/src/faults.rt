@@ -51,12 +51,7 @@ fn gives(one: &GivenName, number: u16, name: &[u8], with_id: &[u8]) -> bool
 fn was_given(given: &[GivenName], number: u16, name: &[u8], with_id: &[u8]) -> bool
     ensures { result ≡ was_given number name.now with_id.now given.now }
 {
-    for one in given {
-        if gives(one, number, name, with_id) {
-            return true;
-        }
-    }
-    false
+    given.iter().any(|one| gives(one, number, name, with_id))
 }
 
 /// Whether a number was given the name of a person.

@@ -1,13 +1,9 @@
 //! A competition's file written with the results of a meet.
 
 ghost use Rattle.std.specs.Prelude.{◌≡◌, ◌∷◌, [], map, OnOk, codes, bytes_eq, if◌then◌else◌};
-ghost use Rattle.json.specs.Token.{key};
-ghost use Rattle.json.specs.Tree.{json_tokens, HasNumbers};
-ghost use Rattle.json.specs.Value.{value_view};
-ghost use Rattle.wcif_results.specs.Filled.{each, filled_round, filled_event, filled_file};
-ghost use Rattle.wcif_results.specs.Filled.{having, value_with};
-ghost use Rattle.wcif_results.specs.Results.{results_json};
-ghost use Rattle.wcif_results.specs.Written.{Adds};
+ghost use Rattle.json.specs.{Token.key, Tree.json_tokens, Tree.HasNumbers, Value.value_view};
+ghost use Rattle.wcif_results.specs.Filled.{each, filled_round, filled_event, filled_file, having};
+ghost use Rattle.wcif_results.specs.{Filled.value_with, Results.results_json, Written.Adds};
 ghost use Rattle.wcif_results.specs.model.Opened.{round_view};
 
 use crate::meet_rounds::{MeetRound, round_named};
@@ -32,9 +28,8 @@ fn write_round_member(
     value: &Value<'_>,
 ) -> Result<(), NoMemory>
     requires { HasNumbers (value_view value.now) }
-    ensures { OnOk result (Adds out.old out.new (key name.now ∷ json_tokens
-        (if bytes_eq name.now (codes "results") then results_json table.now
-        else value_view value.now))) }
+    ensures { OnOk result (Adds out.old out.new (key name.now ∷ json_tokens (if bytes_eq name.now
+        (codes "results") then results_json table.now else value_view value.now))) }
 {
     out.key(name)?;
     if is_results(name) {

@@ -1,15 +1,15 @@
 //! The rounds of a meet, with their ids in a competition's file.
 
 ghost use Rattle.std.specs.Prelude.{◌≡◌, ◌++◌, map, option_map, IfOk, OnOk};
-ghost use Rattle.wcif.specs.Rounds.{round_id};
 ghost use Rattle.wcif_results.specs.MeetRounds.{round_at, event_rounds, meet_rounds, round_named};
 ghost use Rattle.wcif_results.specs.model.Opened.{round_view};
 
-use attempts::{NoMemory, push_decimal};
+use attempts::NoMemory;
 use commands::Meet;
 use formats::{Event, Format};
 use rounds::RoundTable;
 use std::alloc::Global;
+use wcif::round_id;
 
 /// The numbers that a round may have (WCA Regulations, article 9m).
 const ROUND_NUMBERS: [u8; 4] = [1, 2, 3, 4];
@@ -22,17 +22,6 @@ pub(crate) struct MeetRound<'m> {
     pub(crate) id: Vec<u8>,
     pub(crate) format: Format,
     pub(crate) table: &'m RoundTable,
-}
-
-/// The id of a round: its event, `-r` and its number.
-fn round_id(alloc: Global, event: Event, round: u8) -> Result<Vec<u8>, NoMemory>
-    ensures { IfOk result (λ id. id.items ≡ round_id event round) }
-{
-    let mut id = Vec::new(alloc);
-    id.extend_from_slice(event.name().as_bytes())?;
-    id.extend_from_slice(b"-r")?;
-    push_decimal(&mut id, u32::from(round))?;
-    Ok(id)
 }
 
 /// Adds the round of an event with this number, where it was opened.
@@ -82,8 +71,7 @@ fn push_event_rounds<'m>(
 /// All rounds that were opened, in the order of the events' numbers.
 #[tactic(auto, unfolding(crate::specs::MeetRounds::meet_rounds))]
 pub(crate) fn meet_rounds(alloc: Global, meet: &Meet) -> Result<Vec<MeetRound<'_>>, NoMemory>
-    ensures { IfOk result (λ rounds. map round_view rounds.items
-        ≡ meet_rounds meet.now.accepted) }
+    ensures { IfOk result (λ rounds. map round_view rounds.items ≡ meet_rounds meet.now.accepted) }
 {
     let mut rounds = Vec::new(alloc);
     for event in &Event::ALL {

@@ -1,8 +1,7 @@
 //! How deep a JSON value nests.
 
 ghost use Rattle.std.specs.Prelude.{◌≡◌, nat_le};
-ghost use Rattle.json.specs.Tree.{depth};
-ghost use Rattle.json.specs.Value.{value_view};
+ghost use Rattle.json.specs.{Tree.depth, Value.value_view};
 
 use json::Value;
 

@@ -70,10 +70,5 @@ fn is_running(note: &ExportNote) -> bool
 pub fn any_runs(notes: &[ExportNote]) -> bool
     ensures { result ≡ any_runs notes.now }
 {
-    for note in notes {
-        if is_running(note) {
-            return true;
-        }
-    }
-    false
+    notes.iter().any(|note| is_running(note))
 }

@@ -4,8 +4,7 @@ ghost use Rattle.std.specs.Prelude.{◌≡◌, ◌++◌, map, IfOk, OnOk, codes,
 ghost use Rattle.json.specs.Value.{value_view};
 ghost use Rattle.wcif_results.specs.Faults.{file_rounds, held, is_accepted, items_under, number_of};
 ghost use Rattle.wcif_results.specs.Faults.{is_numbered, person_with, round_with_id, status_of};
-ghost use Rattle.wcif_results.specs.Filled.{id_of, text_under};
-ghost use Rattle.wcif_results.specs.model.Opened.{held_view};
+ghost use Rattle.wcif_results.specs.{Filled.id_of, Filled.text_under, model.Opened.held_view};
 
 use attempts::NoMemory;
 use json::Value;

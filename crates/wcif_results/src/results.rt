@@ -1,15 +1,12 @@
 //! The results of a round as JSON.
 
 ghost use Rattle.std.specs.Prelude.{◌≡◌, decimal, flat_map, OnOk};
-ghost use Rattle.json.specs.Json.{number as number_json};
-ghost use Rattle.json.specs.Tree.{json_tokens};
+ghost use Rattle.json.specs.{Json.number as number_json, Tree.json_tokens};
 ghost use Rattle.formats.specs.Results.{best_of};
-ghost use Rattle.rounds.specs.Rows.{IsRow};
-ghost use Rattle.rounds.specs.Tables.{Entrant, Table};
+ghost use Rattle.rounds.specs.{Rows.IsRow, Tables.Entrant, Tables.Table};
 ghost use Rattle.wcif_results.specs.Encoding.{attempt_result, best_result, average_result};
 ghost use Rattle.wcif_results.specs.Results.{attempt_json, attempts_json, ranking_json};
-ghost use Rattle.wcif_results.specs.Results.{result_json};
-ghost use Rattle.wcif_results.specs.Results.{integer, result_of, results_json};
+ghost use Rattle.wcif_results.specs.Results.{result_json, integer, result_of, results_json};
 ghost use Rattle.wcif_results.specs.Written.{Adds};
 
 use crate::encoding::{attempt_result, average_result, best_result};
@@ -19,14 +16,14 @@ use json::Writer;
 use rounds::{EntrantRow, RoundTable};
 
 /// Writes a number.
-fn write_number(out: &mut Writer, number: u16) -> Result<(), NoMemory>
+pub(crate) fn write_number(out: &mut Writer, number: u16) -> Result<(), NoMemory>
     ensures { OnOk result (Adds out.old out.new (json_tokens (number_json (decimal number)))) }
 {
     out.u64(u64::from(number))
 }
 
 /// Writes what an attempt counts as.
-fn write_value(out: &mut Writer, value: Value) -> Result<(), NoMemory>
+pub(crate) fn write_value(out: &mut Writer, value: Value) -> Result<(), NoMemory>
     ensures { OnOk result (Adds out.old out.new (json_tokens (integer (attempt_result value)))) }
 {
     out.i64(attempt_result(value))
@@ -42,8 +39,7 @@ fn write_best(out: &mut Writer, values: &[Value], best: Value) -> Result<(), NoM
 
 /// Writes the average.
 fn write_average(out: &mut Writer, average: Averaged) -> Result<(), NoMemory>
-    ensures { OnOk result
-        (Adds out.old out.new (json_tokens (integer (average_result average)))) }
+    ensures { OnOk result (Adds out.old out.new (json_tokens (integer (average_result average)))) }
 {
     out.i64(average_result(average))
 }
@@ -72,9 +68,8 @@ fn write_attempts(out: &mut Writer, values: &[Value]) -> Result<(), NoMemory>
 }
 
 /// Writes the place, or null where there is no attempt.
-fn write_ranking(out: &mut Writer, values: &[Value], place: u16) -> Result<(), NoMemory>
-    ensures { OnOk result
-        (Adds out.old out.new (json_tokens (ranking_json values.now place))) }
+pub(crate) fn write_ranking(out: &mut Writer, values: &[Value], place: u16) -> Result<(), NoMemory>
+    ensures { OnOk result (Adds out.old out.new (json_tokens (ranking_json values.now place))) }
 {
     if values.is_empty() {
         out.null()

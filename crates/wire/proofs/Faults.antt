@@ -5,25 +5,18 @@ use Rattle.std.proofs.Common.{refl, sym, ap, subst, ◌∙◌, arith, inl, inr}
 use Rattle.std.specs.Int.{w32, from_be_bytes}
 use Rattle.std.proofs.lemmas.Bool.{ltb-true, ltb-false}
 use Rattle.std.proofs.lemmas.List.{length-drop, length-take, get_or-take, get_or-drop}
-use Rattle.wire.specs.declared.fault.WireFault.{WireFault}
+use Rattle.wire.specs.declared.fault.WireFault.{WireFault, TheVariants.NoMemory}
 use Rattle.wire.specs.declared.fault.WireFault.TheVariants.{BadLength, BadVersion, BadKind, BadBody}
-use Rattle.wire.specs.declared.fault.WireFault.TheVariants.{NoMemory}
-use Rattle.wire.specs.declared.frame.Frame.{Frame}
-use Rattle.wire.specs.declared.frame.FrameBody.{FrameBody}
-use Rattle.wire.specs.declared.values.Version.{Version}
+use Rattle.wire.specs.declared.frame.{Frame.Frame, FrameBody.FrameBody}
+use Rattle.wire.specs.{declared.values.Version.Version, Ranges.way_of, Reading.frame_of}
 use Rattle.wire.specs.declared.values.Version.TheVariants.{One, Two, Three, Four, Five}
-use Rattle.wire.specs.Numbers.{versions, version_number}
-use Rattle.wire.proofs.Sequences.{numbered_is}
+use Rattle.wire.{specs.Numbers.versions, specs.Numbers.version_number, proofs.Streams.front_again}
+use Rattle.wire.proofs.{Sequences.numbered_is, Taking.some_is, Whole.version_again}
 use Rattle.wire.specs.Laws.{AreBytes, IsVersion, length_at, IsLength, IsWhole, BeginsWithFrame}
 use Rattle.wire.specs.Laws.{HasKind, LacksKind, IsFirstFault, IsFaultWhereFirst}
-use Rattle.wire.specs.Ranges.{way_of}
 use Rattle.wire.specs.Reading.{between, what_of, is_kind, goes, frame_from, frame_in, version_of}
-use Rattle.wire.specs.Reading.{frame_of}
 use Rattle.wire.specs.Stream.{Front, Waits, Begins, Breaks, by_frame, by_length, front}
-use Rattle.wire.proofs.FieldLaws.{between_is, between_holds}
-use Rattle.wire.proofs.Streams.{front_takes, front_again}
-use Rattle.wire.proofs.Taking.{some_is}
-use Rattle.wire.proofs.Whole.{version_again}
+use Rattle.wire.proofs.{FieldLaws.between_is, FieldLaws.between_holds, Streams.front_takes}
 
 -- ---- the bytes after a length: the version and the kind that a fault, or a frame, shows
 
@@ -103,17 +96,10 @@ not_both n kind has lacks =
 frame_shows : (bytes : List ℕ) → 8 ≤ length bytes → Shows (frame_of bytes) (get_or bytes 0 0)
     (get_or bytes 7 0)
 unfolding frame_of
-frame_shows [] le = absurd (omega (arith, le))
-frame_shows (version ∷ []) le = absurd (omega (arith, le))
-frame_shows (version ∷ a ∷ []) le = absurd (omega (arith, le))
-frame_shows (version ∷ a ∷ b ∷ []) le = absurd (omega (arith, le))
-frame_shows (version ∷ a ∷ b ∷ c ∷ []) le = absurd (omega (arith, le))
-frame_shows (version ∷ a ∷ b ∷ c ∷ d ∷ []) le = absurd (omega (arith, le))
-frame_shows (version ∷ a ∷ b ∷ c ∷ d ∷ from ∷ []) le = absurd (omega (arith, le))
-frame_shows (version ∷ a ∷ b ∷ c ∷ d ∷ from ∷ to ∷ []) le = absurd (omega (arith, le))
 frame_shows (version ∷ a ∷ b ∷ c ∷ d ∷ from ∷ to ∷ kind ∷ bytes) le =
     version_shows (version_of version) version (from_be_bytes w32 (a ∷ b ∷ c ∷ d ∷ [])) from to
     kind bytes refl
+frame_shows _ le = absurd (omega (arith, le))
 
 -- ---- what the front says of bytes
 
@@ -173,15 +159,13 @@ size_tells bytes n range whole waits false e =
     (get_or (take n (drop 4 bytes)) 0 0) x) k shows))
 
 range_tells : (bytes : List ℕ) (n : ℕ) → 4 ≤ length bytes → n ≡ length_at bytes → (b : Bool)
-    → between 8 300000 n ≡ b
-    → Tells (cond (not b) (Breaks BadLength)
+    → between 8 300000 n ≡ b → Tells (cond (not b) (Breaks BadLength)
     (cond (ltb (length (drop 4 bytes)) n) Waits
     (by_frame (frame_of (take n (drop 4 bytes))) (drop n (drop 4 bytes))))) bytes
 range_tells bytes n four is true e =
     let range : IsLength n = between_is 8 300000 n e in
     let known : IsLength (length_at bytes) = subst (λ (x : ℕ). IsLength x) is range in
-    size_tells bytes n range
-    (λ le. record {
+    size_tells bytes n range (λ le. record {
       counted = known;
       there = subst (λ (x : ℕ). 4 + x ≤ length bytes) is
           (all_there bytes n four le);
@@ -219,11 +203,8 @@ no_frame bytes e b has =
 
 first_is : (bytes : List ℕ) (e : WireFault) → Tells (Breaks e) bytes → (BeginsWithFrame bytes → ⊥)
     → IsFirstFault e bytes
-first_is bytes BadLength t none = t
-first_is bytes BadVersion t none = t
-first_is bytes BadKind t none = t
 first_is bytes BadBody t none = (t.0, t.1, none)
-first_is bytes NoMemory t none = t
+first_is bytes _ t none = t
 
 breaks_first : (bytes : List ℕ) (e : WireFault) → front bytes ≡ Breaks e → IsFirstFault e bytes
 breaks_first bytes e b = first_is bytes e (subst (λ (x : Front). Tells x bytes) b (tells bytes))
@@ -262,10 +243,8 @@ short bytes whole t =
 -- where a fault is first, nothing waits
 no_wait : (bytes : List ℕ) (e : WireFault) → IsFirstFault e bytes → Tells Waits bytes → ⊥
 no_wait bytes BadLength p t = p.1 (t p.0).0
-no_wait bytes BadVersion p t = short bytes p.0 t
-no_wait bytes BadKind p t = short bytes p.0 t
-no_wait bytes BadBody p t = short bytes p.0 t
 no_wait bytes NoMemory p t = p
+no_wait bytes _ p t = short bytes p.0 t
 
 -- nor is a frame there
 no_begin : (bytes : List ℕ) (e : WireFault) (f : Frame) (rest : List ℕ) → IsFirstFault e bytes

@@ -1,16 +1,10 @@
 -- A stream from the front: one more frame, and what is left.
 use Rattle.std.proofs.Common.{◌≡◌, ℕ, ◌+◌, ◌≤◌, List, [], ◌∷◌, ◌++◌, length, drop, Option, Some}
 use Rattle.std.proofs.Common.{None, refl, sym, ap, subst, ◌∙◌, append_assoc, arith, inl}
-use Rattle.std.specs.List.{flat_map, AllByRecursion}
-use Rattle.std.proofs.lemmas.Grind.{flat_map-append}
-use Rattle.std.proofs.lemmas.List.{drop-drop, append-nil, length-drop}
-use Rattle.std.proofs.lemmas.List.Concat.{flat_map-cons}
-use Rattle.wire.specs.declared.fault.WireFault.{WireFault}
-use Rattle.wire.specs.declared.fault.WireFault.TheVariants.{BadLength, BadVersion, BadKind, BadBody}
-use Rattle.wire.specs.declared.fault.WireFault.TheVariants.{NoMemory}
-use Rattle.wire.specs.declared.frame.Frame.{Frame}
-use Rattle.wire.specs.Ranges.{IsFrame}
-use Rattle.wire.specs.Spelling.{spelling}
+use Rattle.std.{specs.List.flat_map, specs.List.AllByRecursion, proofs.lemmas.Grind.flat_map-append}
+use Rattle.std.proofs.lemmas.List.{drop-drop, append-nil, length-drop, Concat.flat_map-cons}
+use Rattle.wire.specs.declared.fault.WireFault.{WireFault, TheVariants.NoMemory}
+use Rattle.wire.specs.{declared.frame.Frame.Frame, Ranges.IsFrame, Spelling.spelling}
 use Rattle.wire.specs.Stream.{Front, Begins, front, IsBegun, Ends, IsOfStream, IsKept, Reader}
 use Rattle.wire.specs.Stream.{holding, broken, keeps, RefusesFault, Refuses}
 use Rattle.wire.specs.model.Steps.{AreFirst, IsTaken, ReadsOn}
@@ -92,11 +86,8 @@ first_begun bytes (f ∷ fs) size first begun =
 
 refuses : (e : WireFault) (piece : List ℕ) (old new : Reader) → IsOfStream e
     → RefusesFault e piece old new → Refuses e piece old new
-refuses BadLength piece old new h r = r
-refuses BadVersion piece old new h r = r
-refuses BadKind piece old new h r = r
-refuses BadBody piece old new h r = r
 refuses NoMemory piece old new h r = absurd h
+refuses _ piece old new h r = r
 
 kept_is : (e : WireFault) (fault : Option WireFault) → IsKept fault → fault ≡ Some e → IsOfStream e
 kept_is e None h k = absurd cc

@@ -2,23 +2,17 @@
 use Rattle.std.proofs.Common.{◌≡◌, ◌⊎◌, ℕ, ◌+◌, ◌<◌, ◌≤◌, Bool, true, false, ltb, List, [], ◌++◌}
 use Rattle.std.proofs.Common.{length, take, drop, Some, Result, Ok, Err, refl, sym, ap, subst, ◌∙◌}
 use Rattle.std.proofs.Common.{append_assoc, arith, inl, inr}
-use Rattle.std.specs.Prelude.{IsOk}
-use Rattle.std.specs.Int.{w32, from_be_bytes}
+use Rattle.std.specs.{Prelude.IsOk, Int.w32, Int.from_be_bytes}
 use Rattle.std.proofs.lemmas.Bool.{ltb-true, ltb-false, lt-ltb, le-ltb}
-use Rattle.std.proofs.lemmas.List.{take_at, drop_at, drop_all, take-append-le, drop-append-le}
-use Rattle.std.proofs.lemmas.List.{take-append-drop, drop-drop, append-nil, length-append}
-use Rattle.std.proofs.lemmas.List.{length-drop}
-use Rattle.wire.specs.declared.fault.WireFault.{WireFault}
-use Rattle.wire.specs.declared.fault.WireFault.TheVariants.{BadLength, BadVersion, BadKind, BadBody}
-use Rattle.wire.specs.declared.fault.WireFault.TheVariants.{NoMemory}
-use Rattle.wire.specs.declared.frame.Frame.{Frame}
-use Rattle.wire.specs.Laws.{length_at, IsLength}
+use Rattle.std.proofs.lemmas.List.{take_at, drop_at, drop_all, drop-drop, append-nil, length-drop}
+use Rattle.std.proofs.lemmas.List.{take-append-le, drop-append-le, take-append-drop, length-append}
+use Rattle.wire.specs.declared.{fault.WireFault.WireFault, frame.Frame.Frame}
+use Rattle.wire.specs.declared.fault.WireFault.TheVariants.{BadLength, NoMemory}
+use Rattle.wire.specs.{Laws.length_at, Laws.IsLength, model.Gives.GivesFrame}
 use Rattle.wire.specs.Reading.{between, frame_of}
 use Rattle.wire.specs.Stream.{Front, Waits, Breaks, by_frame, front, IsBegun}
-use Rattle.wire.specs.model.Gives.{GivesFrame}
 use Rattle.wire.specs.model.Steps.{GivesLength, IsToppedUp, Finishes, StandsInFront}
-use Rattle.wire.proofs.Faults.{Tells, tells}
-use Rattle.wire.proofs.Pieces.{breaks_more}
+use Rattle.wire.proofs.{Faults.Tells, Faults.tells, Pieces.breaks_more}
 
 -- ---- the front, by the number in its first four bytes
 
@@ -100,8 +94,7 @@ stands_in_front old more = take_at old more (length old) refl
 
 -- at most four bytes are put, and the length is not there
 pub no_length : (piece old new : List ℕ) (added : ℕ) → IsToppedUp 4 piece old new added
-    → length new < 4
-    → (front (old ++ piece) ≡ Waits) × (new ≡ old ++ piece)
+    → length new < 4 → (front (old ++ piece) ≡ Waits) × (new ≡ old ++ piece)
 no_length piece old new added up lt =
     let ended : added ≡ length piece = go up.enough in
     let whole : new ≡ old ++ piece = all_held new (drop added piece) (old ++ piece)
@@ -113,21 +106,16 @@ no_length piece old new added up lt =
 
 -- the length is there, and bad
 bad_found : (piece old new : List ℕ) (added : ℕ) → IsToppedUp 4 piece old new added
-    → front new ≡ Breaks BadLength
-    → front (old ++ piece) ≡ Breaks BadLength
+    → front new ≡ Breaks BadLength → front (old ++ piece) ≡ Breaks BadLength
 bad_found piece old new added up at =
     subst (λ (x : List ℕ). front x ≡ Breaks BadLength) (joined 4 piece old new added up)
     (breaks_more new (drop added piece) BadLength at)
 
 pub bad_length : (piece old new : List ℕ) (added : ℕ) (e : WireFault)
-    → IsToppedUp 4 piece old new added
-    → GivesLength (Err e) new → Finishes (Err e) old piece new
+    → IsToppedUp 4 piece old new added → GivesLength (Err e) new → Finishes (Err e) old piece new
 bad_length piece old new added BadLength up gives = bad_found piece old new added up
     (front_bad new gives.0 gives.1)
-bad_length piece old new added BadVersion up gives = absurd gives
-bad_length piece old new added BadKind up gives = absurd gives
-bad_length piece old new added BadBody up gives = absurd gives
-bad_length piece old new added NoMemory up gives = absurd gives
+bad_length piece old new added _ up gives = absurd gives
 
 -- the length is there, and bytes were put to the frame's end if the piece goes so far
 pub record IsFilled (old piece new : List ℕ) (n added : ℕ) : Type 0 where
@@ -145,8 +133,7 @@ same_head x y four = ap (from_be_bytes w32) (take-append-le 4 x y four)
 
 -- what is held is not longer than its frame
 not_longer : (piece old first : List ℕ) (n a : ℕ) → front old ≡ Waits
-    → IsToppedUp 4 piece old first a
-    → n ≡ length_at first → length first ≤ 4 + n
+    → IsToppedUp 4 piece old first a → n ≡ length_at first → length first ≤ 4 + n
 not_longer piece old first n a waits up is = go up.most where
   go : (length first ≤ 4) ⊎ (first ≡ old) → length first ≤ 4 + n
   go (inl four) = omega (arith, four)
@@ -203,8 +190,7 @@ filled old piece first new n a b waits up gives more =
       enough (inr le) rest = inr le
 
 pub still_waits : (old piece new : List ℕ) (n added : ℕ) → IsFilled old piece new n added
-    → length new < 4 + n
-    → (front (old ++ piece) ≡ Waits) × (new ≡ old ++ piece)
+    → length new < 4 + n → (front (old ++ piece) ≡ Waits) × (new ≡ old ++ piece)
 still_waits old piece new n added f lt =
     let whole : new ≡ old ++ piece = all_held new (drop added piece) (old ++ piece) f.joined
     (go f.enough) in (
@@ -226,23 +212,17 @@ whole_at old piece new n added f le =
 pub finished : (old piece new : List ℕ) (added : ℕ) (r read : Result Frame WireFault)
     → GivesFrame r read
     → front (old ++ piece) ≡ by_frame read (drop added piece) → added ≤ length piece → (f : Frame)
-    → r ≡ Ok f
-    → Finishes (Ok (Some (f, added))) old piece new
+    → r ≡ Ok f → Finishes (Ok (Some (f, added))) old piece new
 finished old piece new added r read gives at within f is =
     let read_is : read ≡ Ok f = subst (λ (x : Result Frame WireFault). GivesFrame x read) is
     gives in
     (at ∙ ap (λ (x : Result Frame WireFault). by_frame x (drop added piece)) read_is, within)
 
 pub not_finished : (old piece new : List ℕ) (e : WireFault) (read : Result Frame WireFault)
-    (y : List ℕ)
-    → GivesFrame (Err e) read → front (old ++ piece) ≡ by_frame read y
+    (y : List ℕ) → GivesFrame (Err e) read → front (old ++ piece) ≡ by_frame read y
     → Finishes (Err e) old piece new
 not_finished old piece new BadLength read y gives at = absurd gives
-not_finished old piece new BadVersion read y gives at = at
-    ∙ ap (λ (x : Result Frame WireFault). by_frame x y) gives
-not_finished old piece new BadKind read y gives at = at
-    ∙ ap (λ (x : Result Frame WireFault). by_frame x y) gives
-not_finished old piece new BadBody read y gives at = at
-    ∙ ap (λ (x : Result Frame WireFault). by_frame x y) gives
 not_finished old piece new NoMemory read y gives at = subst (λ (x : Front). IsBegun x) (sym at)
     (begun_by read y gives)
+not_finished old piece new _ read y gives at = at
+    ∙ ap (λ (x : Result Frame WireFault). by_frame x y) gives

@@ -1,30 +1,19 @@
 -- What a reader keeps of a stream.
-use Rattle.std.proofs.Common.{◌≡◌, ℕ, zero, suc, get_or, ◌<◌, ◌≤◌, List, [], ◌∷◌, ◌++◌, length}
+use Rattle.std.proofs.Common.{◌≡◌, ℕ, zero, suc, get_or, ◌<◌, ◌≤◌, List, [], ◌∷◌, ◌++◌, length, inr}
 use Rattle.std.proofs.Common.{drop, Option, Some, None, Result, Ok, Err, refl, sym, ap, subst, ◌∙◌}
-use Rattle.std.proofs.Common.{append_assoc, arith, inr}
-use Rattle.std.specs.Prelude.{IsSome, OnErr}
-use Rattle.std.specs.List.{flat_map}
-use Rattle.std.proofs.lemmas.List.Concat.{flat_map-cons}
-use Rattle.wire.specs.declared.fault.WireFault.{WireFault}
-use Rattle.wire.specs.declared.fault.WireFault.TheVariants.{BadLength, BadVersion, BadKind, BadBody}
-use Rattle.wire.specs.declared.fault.WireFault.TheVariants.{NoMemory}
-use Rattle.wire.specs.declared.frame.Frame.{Frame}
-use Rattle.wire.specs.Spelling.{spelling}
+use Rattle.std.{proofs.Common.append_assoc, specs.Prelude.IsSome, specs.Prelude.OnErr}
+use Rattle.std.{proofs.Common.arith, specs.List.flat_map, proofs.lemmas.List.Concat.flat_map-cons}
+use Rattle.wire.specs.declared.fault.WireFault.{WireFault, TheVariants.NoMemory}
+use Rattle.wire.{specs.declared.frame.Frame.Frame, specs.Spelling.spelling, proofs.Faults.tells}
 use Rattle.wire.specs.Stream.{Front, Waits, Begins, Breaks, front, IsBegun, Ends, IsOfStream}
 use Rattle.wire.specs.Stream.{IsKept, Reader, broken, keeps, Feeds, RefusesFault, Refuses}
 use Rattle.wire.specs.model.Steps.{IsTaken, ReadsOn}
-use Rattle.wire.proofs.Taking.{IsBytes}
-use Rattle.wire.proofs.Streams.{front_takes}
-use Rattle.wire.proofs.Faults.{Tells, tells}
-use Rattle.wire.proofs.Finishing.{waits_short}
+use Rattle.wire.proofs.{Taking.IsBytes, Streams.front_takes, Faults.Tells, Finishing.waits_short}
 
 -- a fault at the front is one of the stream
 told_of_stream : (e : WireFault) (bytes : List ℕ) → Tells (Breaks e) bytes → IsOfStream e
-told_of_stream BadLength bytes t = tt
-told_of_stream BadVersion bytes t = tt
-told_of_stream BadKind bytes t = tt
-told_of_stream BadBody bytes t = tt
 told_of_stream NoMemory bytes t = absurd t
+told_of_stream _ bytes t = tt
 
 pub breaks_of_stream : (bytes : List ℕ) (e : WireFault) → front bytes ≡ Breaks e → IsOfStream e
 breaks_of_stream bytes e at = told_of_stream e bytes
@@ -43,8 +32,7 @@ held_waits (Begins f more) rest reader is not k = absurd (not tt)
 held_waits (Breaks e) rest reader is not k = ap (λ (r : Reader). front r.held) k ∙ nothing_waits
 
 pub waits_after : (stream : List ℕ) (frames : List Frame) (reader : Reader)
-    → Feeds stream frames reader
-    → front reader.held ≡ Waits
+    → Feeds stream frames reader → front reader.held ≡ Waits
 waits_after stream frames reader fed = held_waits (front fed.rest) fed.rest reader refl fed.ends
     fed.keeps
 
@@ -54,8 +42,7 @@ kept_of (Begins f more) rest is = tt
 kept_of (Breaks e) rest is = breaks_of_stream rest e is
 
 pub kept_after : (stream : List ℕ) (frames : List Frame) (reader : Reader)
-    → Feeds stream frames reader
-    → IsKept reader.fault
+    → Feeds stream frames reader → IsKept reader.fault
 kept_after stream frames reader fed =
     subst (λ (r : Reader). IsKept r.fault) (sym fed.keeps) (kept_of (front fed.rest) fed.rest refl)
 
@@ -65,8 +52,7 @@ broken_of (Begins f more) rest some = absurd cc
 broken_of (Breaks e) rest some = refl
 
 pub broken_after : (stream : List ℕ) (frames : List Frame) (reader : Reader)
-    → Feeds stream frames reader
-    → IsSome reader.fault → reader.held ≡ []
+    → Feeds stream frames reader → IsSome reader.fault → reader.held ≡ []
 broken_after stream frames reader fed some =
     let is = fed.keeps in
     ap (λ (r : Reader). r.held) is ∙ broken_of (front fed.rest) fed.rest
@@ -107,17 +93,12 @@ broken_at (Breaks x) rest reader e k some =
     (ap (λ (y : WireFault). Breaks y) same, k ∙ ap (λ (y : WireFault). broken y) same)
 
 of_stream : (e : WireFault) (piece : List ℕ) (old new : Reader) → IsOfStream e
-    → RefusesFault e piece old new
-    → Refuses e piece old new
-of_stream BadLength piece old new h r = r
-of_stream BadVersion piece old new h r = r
-of_stream BadKind piece old new h r = r
-of_stream BadBody piece old new h r = r
+    → RefusesFault e piece old new → Refuses e piece old new
 of_stream NoMemory piece old new h r = absurd h
+of_stream _ piece old new h r = r
 
 pub refused_at_once : (piece : List ℕ) (old new : Reader) (frames : List Frame) (e : WireFault)
-    → old.fault ≡ None
-    → Feeds (old.held ++ piece) frames new → frames ≡ [] → new.fault ≡ Some e
+    → old.fault ≡ None → Feeds (old.held ++ piece) frames new → frames ≡ [] → new.fault ≡ Some e
     → Refuses e piece old new
 refused_at_once piece old new frames e none fed empty some =
     let stream : old.held ++ piece ≡ fed.rest =

@@ -1,6 +1,6 @@
 pub mod Taking
-pub mod FieldLaws
 pub mod Sequences
+pub mod FieldLaws
 pub mod Bodies
 pub mod Many
 pub mod Runs

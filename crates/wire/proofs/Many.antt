@@ -1,14 +1,11 @@
 -- Fields of one sort, one after the other: those that were read, and those that are left.
-use Rattle.std.proofs.Common.{◌≡◌, ℕ, zero, suc, List, [], ◌∷◌, ◌++◌, Some, None, refl, sym}
-use Rattle.std.proofs.Common.{ap, subst, ◌∙◌, append_assoc}
-use Rattle.std.specs.Option.{option_map}
-use Rattle.std.proofs.lemmas.List.{append-nil}
+use Rattle.std.proofs.Common.{◌≡◌, ℕ, zero, suc, List, [], ◌∷◌, ◌++◌, Some, None, refl, sym, ap}
+use Rattle.std.proofs.Common.{subst, ◌∙◌, append_assoc}
+use Rattle.std.{specs.Option.option_map, proofs.lemmas.List.append-nil}
 use Rattle.acceptor.specs.declared.entry.Entry.{Entry}
-use Rattle.wire.specs.declared.fault.WireFault.{WireFault}
-use Rattle.wire.specs.declared.fault.WireFault.TheVariants.{BadLength, BadVersion, BadKind, BadBody}
-use Rattle.wire.specs.declared.fault.WireFault.TheVariants.{NoMemory}
+use Rattle.wire.specs.{declared.fault.WireFault.WireFault, Reading.entry_at, Reading.entries_at}
+use Rattle.wire.specs.declared.fault.WireFault.TheVariants.{BadBody, NoMemory}
 use Rattle.wire.specs.Fields.{Read, ◌>>=◌, many}
-use Rattle.wire.specs.Reading.{entry_at, entries_at}
 use Rattle.wire.specs.model.Gives.{Lacks, LacksEntries}
 
 -- these are before the others
@@ -53,8 +50,7 @@ pub went_on : {A : Type 0} (read : List ℕ → Read A) (n : ℕ) (bytes : List 
 went_on {A} read n bytes k left xs rest after x is so_far e =
     let here : GoesOn read n bytes (suc left) xs rest =
     subst (λ (m : ℕ). GoesOn read n bytes m xs rest) is so_far in
-    here ∙ ap (λ (o : Read (List A)). o >>= put_before xs)
-    (first_of_many read left rest after x e)
+    here ∙ ap (λ (o : Read (List A)). o >>= put_before xs) (first_of_many read left rest after x e)
     ∙ regrouped (many read left after) xs x
 
 pub stopped : {A : Type 0} (read : List ℕ → Read A) (n : ℕ) (bytes : List ℕ) (k left : ℕ)
@@ -84,20 +80,15 @@ all_read {A} read n bytes k xs rest is so_far =
 pub not_passed : (e : WireFault) (n : ℕ) (bytes : List ℕ) (k left : ℕ) (xs : List Entry)
     (rest : List ℕ) → k ≡ suc left → GoesOn entry_at n bytes k xs rest
     → Lacks e (entry_at rest) → Lacks e (option_map (λ x. x.1) (entries_at n bytes))
-not_passed BadLength n bytes k left xs rest is so_far lacks = lacks
-not_passed BadVersion n bytes k left xs rest is so_far lacks = lacks
-not_passed BadKind n bytes k left xs rest is so_far lacks = lacks
 not_passed BadBody n bytes k left xs rest is so_far lacks =
     ap (λ (o : Read (List Entry)). option_map (λ x. x.1) o)
     (stopped entry_at n bytes k left xs rest is so_far lacks)
-not_passed NoMemory n bytes k left xs rest is so_far lacks = lacks
+not_passed _ n bytes k left xs rest is so_far lacks = lacks
 
 pub not_pushed : (e : WireFault) (n : ℕ) (bytes : List ℕ) (k left : ℕ) (xs : List Entry)
     (rest : List ℕ) → k ≡ suc left → GoesOn entry_at n bytes k xs rest
     → Lacks e (entry_at rest) → LacksEntries e (entries_at n bytes)
-not_pushed BadLength n bytes k left xs rest is so_far lacks = lacks
-not_pushed BadVersion n bytes k left xs rest is so_far lacks = lacks
-not_pushed BadKind n bytes k left xs rest is so_far lacks = lacks
 not_pushed BadBody n bytes k left xs rest is so_far lacks =
     stopped entry_at n bytes k left xs rest is so_far lacks
 not_pushed NoMemory n bytes k left xs rest is so_far lacks = absurd lacks
+not_pushed _ n bytes k left xs rest is so_far lacks = lacks

@@ -1,25 +1,17 @@
 -- A stream in pieces: what was read so far, one more piece, and the one way to read a stream.
-use Rattle.std.proofs.Common.{◌≡◌, ℕ, suc, ◌<◌, ◌≤◌, Bool, true, false, cond, ltb, not, List, []}
-use Rattle.std.proofs.Common.{◌∷◌, ◌++◌, length, take, drop, Option, Some, None, Result, Ok, Err}
-use Rattle.std.proofs.Common.{refl, sym, ap, subst, ◌∙◌, append_assoc, arith, inl, inr, get_or}
-use Rattle.std.proofs.Common.{drop-cons}
-use Rattle.std.specs.List.{flat_map, AllByRecursion}
-use Rattle.std.specs.Int.{w32, from_be_bytes}
-use Rattle.std.proofs.lemmas.Bool.{ltb-false, le-ltb}
-use Rattle.std.proofs.lemmas.Grind.{flat_map-append}
+use Rattle.std.proofs.Common.{◌≡◌, ℕ, suc, ◌<◌, ◌≤◌, ltb, not, ◌∷◌, Ok, Err, sym, ap, ◌∙◌, inl, inr}
+use Rattle.std.proofs.Common.{Bool, true, cond, List, [], ◌++◌, take, drop, Some, None, refl, arith}
+use Rattle.std.proofs.Common.{false, length, Option, Result, subst, append_assoc, get_or, drop-cons}
+use Rattle.std.specs.{List.flat_map, List.AllByRecursion, Int.w32, Int.from_be_bytes}
+use Rattle.std.proofs.lemmas.{Bool.ltb-false, Bool.le-ltb, Grind.flat_map-append}
 use Rattle.std.proofs.lemmas.List.{length-append, take-append-le, drop-append-le, take-append-drop}
-use Rattle.std.proofs.lemmas.List.{take_all}
-use Rattle.std.proofs.lemmas.List.Concat.{flat_map-cons}
-use Rattle.wire.specs.declared.fault.WireFault.{WireFault}
-use Rattle.wire.specs.declared.fault.WireFault.TheVariants.{BadLength, BadVersion, BadKind, BadBody}
-use Rattle.wire.specs.declared.fault.WireFault.TheVariants.{NoMemory}
-use Rattle.wire.specs.declared.frame.Frame.{Frame}
-use Rattle.wire.specs.Ranges.{IsFrame}
+use Rattle.std.proofs.lemmas.List.{take_all, Concat.flat_map-cons}
+use Rattle.wire.specs.declared.{fault.WireFault.WireFault, frame.Frame.Frame}
+use Rattle.wire.specs.declared.fault.WireFault.TheVariants.{BadLength, NoMemory}
+use Rattle.wire.specs.{Ranges.IsFrame, Spelling.spelling, Stream.Refuses, Stream.Splits}
 use Rattle.wire.specs.Reading.{between, frame_of}
-use Rattle.wire.specs.Spelling.{spelling}
 use Rattle.wire.specs.Stream.{Front, Waits, Begins, Breaks, by_frame, by_length, front, IsBegun}
 use Rattle.wire.specs.Stream.{Ends, IsOfStream, IsKept, Reader, holding, keeps, Feeds, RefusesFault}
-use Rattle.wire.specs.Stream.{Refuses, Splits}
 use Rattle.wire.proofs.Streams.{prefix_free, front_again}
 
 -- ---- a fault at the front stays there when bytes come
@@ -46,8 +38,7 @@ by_length_more n x y e h =
     length_more (not (between 8 300000 n))
     (cond (ltb (length x) n) Waits (by_frame (frame_of (take n x)) (drop n x)))
     (cond (ltb (length (x ++ y)) n) Waits
-    (by_frame (frame_of (take n (x ++ y))) (drop n (x ++ y)))) e
-    (λ k.
+    (by_frame (frame_of (take n (x ++ y))) (drop n (x ++ y)))) e (λ k.
     let w = waited (ltb (length x) n) (by_frame (frame_of (take n x)) (drop n x)) e k in
     let there : n ≤ length x = ltb-false _ _ w.0 in
     let long : ltb (length (x ++ y)) n ≡ false =
@@ -238,8 +229,5 @@ all_in f ps i frames reader fault le fed is kept =
 -- a refusal that is not want of memory
 pub fault_known : (e : WireFault) (piece : List ℕ) (old new : Reader) → Refuses e piece old new
     → (e ≡ NoMemory → ⊥) → RefusesFault e piece old new × IsOfStream e
-fault_known BadLength piece old new r not = (r, tt)
-fault_known BadVersion piece old new r not = (r, tt)
-fault_known BadKind piece old new r not = (r, tt)
-fault_known BadBody piece old new r not = (r, tt)
 fault_known NoMemory piece old new r not = absurd (not refl)
+fault_known _ piece old new r not = (r, tt)

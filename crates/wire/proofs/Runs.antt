@@ -1,36 +1,27 @@
 -- The fields of a Decided: what is read is spelled so and in its ranges, and what is spelled so is
 -- read.
-use Rattle.std.proofs.Common.{◌≡◌, ℕ, ◌+◌, ◌*◌, ◌<◌, ◌≤◌, cond, leb, List, [], ◌∷◌, ◌++◌}
-use Rattle.std.proofs.Common.{length, get_or, take, Some, None, Result, Ok, Err, OnOk, refl, sym}
-use Rattle.std.proofs.Common.{ap, subst, ◌∙◌, append_assoc, arith}
-use Rattle.std.specs.List.{flat_map, AllByRecursion}
-use Rattle.std.proofs.lemmas.Bool.{leb-true, le-leb}
-use Rattle.std.proofs.lemmas.List.{length-append, take_more, flat_map_more}
+use Rattle.std.proofs.Common.{◌≡◌, ℕ, ◌+◌, ◌*◌, ◌<◌, ◌≤◌, leb, List, [], ◌∷◌, ◌++◌, length}
+use Rattle.std.proofs.Common.{get_or, take, Some, Result, Ok, Err, OnOk, refl, sym, ap, subst}
+use Rattle.std.proofs.Common.{◌∙◌, append_assoc, arith}
+use Rattle.std.{specs.List.flat_map, specs.List.AllByRecursion, proofs.lemmas.Bool.le-leb}
+use Rattle.std.proofs.lemmas.{Bool.leb-true, List.length-append, List.take_more, List.flat_map_more}
 use Rattle.acceptor.specs.declared.entry.Entry.{Entry}
-use Rattle.wire.specs.declared.frame.FrameBody.{FrameBody}
-use Rattle.wire.specs.declared.frame.FrameBody.TheVariants.{Decided}
-use Rattle.wire.specs.declared.values.Version.{Version}
-use Rattle.wire.specs.declared.values.Version.TheVariants.{One, Two, Three, Four, Five}
-use Rattle.wire.specs.Fields.{◌>>=◌, byte_at, all_of}
+use Rattle.wire.specs.declared.frame.FrameBody.{FrameBody, TheVariants.Decided}
+use Rattle.wire.specs.declared.values.Version.{Version, TheVariants.One}
 use Rattle.wire.specs.Ranges.{IsEntry, IsPosition, IsCount, AreDecided}
-use Rattle.wire.specs.Reading.{between, position_at, entry_at, told_count_at, count_at, entries_at}
-use Rattle.wire.specs.Reading.{decided_of}
+use Rattle.wire.specs.Reading.{between, told_count_at, count_at, entries_at, decided_of}
 use Rattle.wire.specs.Spelling.{entry_bytes, count_bytes, decided_bytes}
 use Rattle.wire.proofs.Taking.{IsBytes, bind_some, passed, some_is, Takes}
 use Rattle.wire.proofs.FieldLaws.{between_is, between_holds}
-use Rattle.wire.proofs.Sequences.{IsField, AreMany, many_field, all_takes, all_again}
-use Rattle.wire.proofs.Bodies.{u32, position_field, byte_field, entry_field}
+use Rattle.wire.proofs.Sequences.{IsField, AreMany, narrowed, many_field, all_takes, all_again}
+use Rattle.wire.proofs.FieldLaws.{u32, position_field, byte_field, entry_field}
 
 -- ---- the count
 
-told_takes : (bytes : List ℕ) (x : ℕ × List ℕ) → IsBytes bytes → told_count_at bytes ≡ Some x
-    → Takes bytes (x.0 ∷ []) x.1 × ((1 ≤ x.0) × (x.0 ≤ 16))
-told_takes bytes x fits e =
-    let a = bind_some (byte_at bytes) (λ n. cond (between 1 16 n.0) (Some n) None) x e in
-    let c = passed (between 1 16 a.0.0) a.0 x a.2 in
-    let t = byte_field.takes bytes a.0 fits a.1 in
-    subst (λ (y : ℕ × List ℕ). Takes bytes (y.0 ∷ []) y.1 × ((1 ≤ y.0) × (y.0 ≤ 16))) c.1
-    (t.0, between_is 1 16 a.0.0 c.0)
+told_field : IsField (λ (b : ℕ). b ∷ []) (λ (n : ℕ). (1 ≤ n) × (n ≤ 16)) told_count_at
+told_field = narrowed byte_field (λ n. between 1 16 n) (λ (n : ℕ). (1 ≤ n) × (n ≤ 16))
+    (λ n lt is. between_is 1 16 n is)
+    (λ n fits. (omega (arith, fits.1), between_holds 1 16 n fits.0 fits.1))
 
 count_takes : (v : Version) (bytes : List ℕ) (x : ℕ × List ℕ) → IsBytes bytes
     → count_at v bytes ≡ Some x → Takes bytes (count_bytes v x.0) x.1 × IsCount v x.0
@@ -38,23 +29,17 @@ unfolding count_at
 count_takes One bytes x fits e =
     subst (λ (y : ℕ × List ℕ). Takes bytes (count_bytes One y.0) y.1 × IsCount One y.0)
     (some_is (1, bytes) x e) (record { parts = refl; are_bytes = fits }, refl)
-count_takes Two bytes x fits e = told_takes bytes x fits e
-count_takes Three bytes x fits e = told_takes bytes x fits e
-count_takes Four bytes x fits e = told_takes bytes x fits e
-count_takes Five bytes x fits e = told_takes bytes x fits e
+count_takes _ bytes x fits e = told_field.takes bytes x fits e
 
 count_again : (v : Version) (n : ℕ) (rest : List ℕ) → IsCount v n
     → count_at v (count_bytes v n ++ rest) ≡ Some (n, rest)
-unfolding count_at byte_at
+unfolding count_at
 count_again One n rest fits = ap (λ (k : ℕ). Some (k, rest)) (sym fits)
-count_again Two n rest fits = rw (between_holds 1 16 n fits.0 fits.1) refl
-count_again Three n rest fits = rw (between_holds 1 16 n fits.0 fits.1) refl
-count_again Four n rest fits = rw (between_holds 1 16 n fits.0 fits.1) refl
-count_again Five n rest fits = rw (between_holds 1 16 n fits.0 fits.1) refl
+count_again _ n rest fits = told_field.again n rest fits
 
 -- this many entries, one after the other
 pub entries_field : (n : ℕ) → IsField (flat_map entry_bytes) (AreMany IsEntry n) (entries_at n)
-entries_field n = many_field entry_bytes IsEntry entry_at entry_field n
+entries_field n = many_field entry_field n
 
 -- ---- the whole
 
@@ -74,18 +59,13 @@ joined v pos n bytes x y es e f g so_many = rw (e, f, g, so_many) refl
 pub run_takes : (v : Version) (bytes : List ℕ) (w : FrameBody) → IsBytes bytes
     → decided_of v bytes ≡ Some w → IsRun v bytes w
 run_takes v bytes w fits e =
-    let a = bind_some (position_at bytes)
-    (λ p. count_at v p.1 >>= λ c. all_of (entries_at c.0) c.1
-    >>= λ es. cond (leb (p.0 + c.0) 65536) (Some (Decided p.0 es)) None) w e in
-    let b = bind_some (count_at v a.0.1)
-    (λ c. all_of (entries_at c.0) c.1
-    >>= λ es. cond (leb (a.0.0 + c.0) 65536) (Some (Decided a.0.0 es)) None) w a.2 in
-    let c = bind_some (all_of (entries_at b.0.0) b.0.1)
-    (λ es. cond (leb (a.0.0 + b.0.0) 65536) (Some (Decided a.0.0 es)) None) w b.2 in
+    let a = bind_some _ _ w e in
+    let b = bind_some _ _ w a.2 in
+    let c = bind_some _ _ w b.2 in
     let d = passed (leb (a.0.0 + b.0.0) 65536) (Decided a.0.0 c.0) w c.2 in
     let t0 = position_field.takes bytes a.0 fits a.1 in
     let t1 = count_takes v a.0.1 b.0 t0.0.are_bytes b.1 in
-    let t2 = all_takes _ _ _ (entries_field b.0.0) b.0.1 c.0 t1.0.are_bytes c.1 in
+    let t2 = all_takes (entries_field b.0.0) b.0.1 c.0 t1.0.are_bytes c.1 in
     let so_many : length c.0 ≡ b.0.0 = t2.1.0 in
     record {
       pos = a.0.0;
@@ -101,10 +81,7 @@ run_takes v bytes w fits e =
 
 counted : (v : Version) (n : ℕ) → IsCount v n → 1 ≤ n
 counted One n fits = omega (arith, fits)
-counted Two n fits = fits.0
-counted Three n fits = fits.0
-counted Four n fits = fits.0
-counted Five n fits = fits.0
+counted _ n fits = fits.0
 
 pub run_again : (v : Version) (pos : ℕ) (entries : List Entry) → AreDecided v pos entries
     → decided_of v (decided_bytes v pos entries) ≡ Some (Decided pos entries)
@@ -115,7 +92,7 @@ run_again v pos entries fits =
     rw (
       position_field.again pos (count_bytes v (length entries) ++ flat_map entry_bytes entries) low,
       count_again v (length entries) (flat_map entry_bytes entries) fits.0,
-      all_again _ _ _ (entries_field (length entries)) entries (refl, fits.2),
+      all_again (entries_field (length entries)) entries (refl, fits.2),
       le-leb _ _ most,
     ) refl
 
@@ -131,10 +108,7 @@ entries_short (e ∷ es) fits =
 
 count_most : (v : Version) (n : ℕ) → IsCount v n → (n ≤ 16) × (length (count_bytes v n) ≤ 1)
 count_most One n fits = (omega (arith, fits), omega arith)
-count_most Two n fits = (fits.1, omega arith)
-count_most Three n fits = (fits.1, omega arith)
-count_most Four n fits = (fits.1, omega arith)
-count_most Five n fits = (fits.1, omega arith)
+count_most _ n fits = (fits.1, omega arith)
 
 pub run_short : (v : Version) (pos : ℕ) (entries : List Entry) → AreDecided v pos entries
     → length (decided_bytes v pos entries) ≤ 299992
@@ -164,8 +138,7 @@ put_one_more {A} s xs i x out lt is =
 
 -- one more entry was put
 pub put_more : (es : List Entry) (i : ℕ) (e : Entry) (out : List ℕ) → i < length es
-    → e ≡ get_or es i e
-    → (out ++ flat_map entry_bytes (take i es)) ++ entry_bytes e
+    → e ≡ get_or es i e → (out ++ flat_map entry_bytes (take i es)) ++ entry_bytes e
     ≡ out ++ flat_map entry_bytes (take (i + 1) es)
 put_more es i e out lt is = put_one_more entry_bytes es i e out lt is
 

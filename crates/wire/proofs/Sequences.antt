@@ -1,13 +1,12 @@
 -- Fields one after the other, all of the bytes, and a byte that numbers a member of a list.
-use Rattle.std.proofs.Common.{◌≡◌, ℕ, zero, suc, Bool, true, false, cond, eqb, List, [], ◌∷◌}
-use Rattle.std.proofs.Common.{◌++◌, length}
+use Rattle.std.proofs.Common.{◌≡◌, ℕ, zero, suc, Bool, true, false, cond, eqb, List, [], ◌∷◌, ◌++◌}
+use Rattle.std.proofs.Common.{length, Some, None, refl, sym, ap, subst, ◌∙◌, append_assoc}
 use Rattle.std.specs.List.{flat_map, AllByRecursion}
-use Rattle.std.proofs.Common.{Some, None, refl, sym, ap, subst, ◌∙◌, append_assoc}
-use Rattle.std.proofs.lemmas.Bool.{eqb-true}
-use Rattle.std.proofs.lemmas.List.{append-nil, nil_from_length}
+use Rattle.std.proofs.lemmas.{Bool.eqb-true, List.append-nil, List.nil_from_length}
 use Rattle.wire.specs.Fields.{Read, ◌>>=◌, byte_at, two, many, all_of, numbered}
 use Rattle.wire.specs.Reading.{member_at}
-use Rattle.wire.proofs.Taking.{IsBytes, bind_some, passed, some_is, Takes, Takes-then, byte_takes}
+use Rattle.wire.proofs.Taking.{IsBytes, IsBytes-rest, bind_some, passed, some_is, Takes, Takes-then}
+use Rattle.wire.proofs.Taking.{byte_takes}
 
 -- a reader and a spelling belong together
 pub record IsField {A : Type 0} (spell : A → List ℕ) (Fits : A → Type 0) (read : List ℕ → Read A) :
@@ -16,10 +15,10 @@ pub record IsField {A : Type 0} (spell : A → List ℕ) (Fits : A → Type 0) (
       → Takes bytes (spell x.0) x.1 × Fits x.0
   pub again : (x : A) (rest : List ℕ) → Fits x → read (spell x ++ rest) ≡ Some (x, rest)
 
-pub two_fields : {A B : Type 0} (s : A → List ℕ) (F : A → Type 0) (r : List ℕ → Read A)
-    (t : B → List ℕ) (G : B → Type 0) (q : List ℕ → Read B) → IsField s F r → IsField t G q
+pub two_fields : {A B : Type 0} {s : A → List ℕ} {F : A → Type 0} {r : List ℕ → Read A}
+    {t : B → List ℕ} {G : B → Type 0} {q : List ℕ → Read B} → IsField s F r → IsField t G q
     → IsField (λ (p : A × B). s p.0 ++ t p.1) (λ (p : A × B). F p.0 × G p.1) (two r q)
-two_fields {A} {B} s F r t G q f g = record {
+two_fields {A} {B} {s} {F} {r} {t} {G} {q} f g = record {
   takes = λ bytes x fits e.
       let a = bind_some (r bytes) (λ x. q x.1 >>= λ y. Some ((x.0, y.0), y.1)) x e in
       let b = bind_some (q a.0.1) (λ y. Some ((a.0.0, y.0), y.1)) x a.2 in
@@ -36,9 +35,56 @@ two_fields {A} {B} s F r t G q f g = record {
       refl;
 }
 
-pub all_takes : {A : Type 0} (s : A → List ℕ) (F : A → Type 0) (r : List ℕ → Read A) → IsField s F r
-    → (bytes : List ℕ) (x : A) → IsBytes bytes → all_of r bytes ≡ Some x → (bytes ≡ s x) × F x
-all_takes {A} s F r f bytes x fits e =
+-- a field whose value passes a test
+pub narrowed : {A : Type 0} {s : A → List ℕ} {F : A → Type 0} {r : List ℕ → Read A} → IsField s F r
+    → (test : A → Bool) (G : A → Type 0) → ((x : A) → F x → test x ≡ true → G x)
+    → ((x : A) → G x → F x × (test x ≡ true))
+    → IsField s G (λ (bytes : List ℕ). r bytes >>= λ x. cond (test x.0) (Some x) None)
+narrowed {A} {s} {F} {r} f test G into out = record {
+  takes = λ bytes x fits e.
+      let a = bind_some (r bytes) (λ x. cond (test x.0) (Some x) None) x e in
+      let c = passed (test a.0.0) a.0 x a.2 in
+      let t = f.takes bytes a.0 fits a.1 in
+      subst (λ (y : A × List ℕ). Takes bytes (s y.0) y.1 × G y.0) c.1 (t.0, into a.0.0 t.1 c.0);
+  again = λ x rest fits. let h = out x fits in rw (f.again x rest h.0, h.1) refl;
+}
+
+-- one byte, which says that this is all
+pub alone : {B : Type 0} (t : B → List ℕ) (G : B → Type 0) (y : B) (b : ℕ) (rest : List ℕ)
+    (x : B × List ℕ) → t y ≡ b ∷ [] → G y → IsBytes (b ∷ rest) → Some (y, rest) ≡ Some x
+    → Takes (b ∷ rest) (t x.0) x.1 × G x.0
+alone {B} t G y b rest x is holds fits e =
+    subst (λ (z : B × List ℕ). Takes (b ∷ rest) (t z.0) z.1 × G z.0) (some_is (y, rest) x e) (
+      record {
+        parts = ap (λ (w : List ℕ). w ++ rest) (sym is);
+        are_bytes = IsBytes-rest b rest fits;
+      },
+      holds,
+    )
+
+-- one byte, which says which field is after it
+pub tagged : {A B : Type 0} {s : A → List ℕ} {F : A → Type 0} {r : List ℕ → Read A} → IsField s F r
+    → (make : A → B) (t : B → List ℕ) (G : B → Type 0) (b : ℕ)
+    → ((y : A) → F y → (b ∷ s y ≡ t (make y)) × G (make y)) → (rest : List ℕ) (x : B × List ℕ)
+    → IsBytes (b ∷ rest) → (r rest >>= λ y. Some (make y.0, y.1)) ≡ Some x
+    → Takes (b ∷ rest) (t x.0) x.1 × G x.0
+tagged {A} {B} {s} {F} {r} f make t G b holds rest x fits e =
+    let a = bind_some (r rest) (λ y. Some (make y.0, y.1)) x e in
+    let u = f.takes rest a.0 (IsBytes-rest b rest fits) a.1 in
+    let h = holds a.0.0 u.1 in
+    let made : B × List ℕ = (make a.0.0, a.0.1) in
+    subst (λ (z : B × List ℕ). Takes (b ∷ rest) (t z.0) z.1 × G z.0) (some_is made x a.2) (
+      record {
+        parts = ap (λ (w : List ℕ). b ∷ w) u.0.parts ∙ ap (λ (w : List ℕ). w ++ a.0.1) h.0;
+        are_bytes = u.0.are_bytes;
+      },
+      h.1,
+    )
+
+pub all_takes : {A : Type 0} {s : A → List ℕ} {F : A → Type 0} {r : List ℕ → Read A}
+    → IsField s F r → (bytes : List ℕ) (x : A) → IsBytes bytes → all_of r bytes ≡ Some x
+    → (bytes ≡ s x) × F x
+all_takes {A} {s} {F} {r} f bytes x fits e =
     let a = bind_some (r bytes) (λ x. cond (eqb (length x.1) 0) (Some x.0) None) x e in
     let b = passed (eqb (length a.0.1) 0) a.0.0 x a.2 in
     let t = f.takes bytes a.0 fits a.1 in
@@ -47,9 +93,9 @@ all_takes {A} s F r f bytes x fits e =
     ∙ append-nil (s a.0.0) in
     subst (λ (y : A). (bytes ≡ s y) × F y) b.1 (whole, t.1)
 
-pub all_again : {A : Type 0} (s : A → List ℕ) (F : A → Type 0) (r : List ℕ → Read A) → IsField s F r
-    → (x : A) → F x → all_of r (s x) ≡ Some x
-all_again s F r f x fits =
+pub all_again : {A : Type 0} {s : A → List ℕ} {F : A → Type 0} {r : List ℕ → Read A}
+    → IsField s F r → (x : A) → F x → all_of r (s x) ≡ Some x
+all_again {A} {s} {F} {r} f x fits =
     let read : r (s x) ≡ Some (x, []) = ap r (sym (append-nil (s x))) ∙ f.again x [] fits in
     rw read refl
 
@@ -58,18 +104,18 @@ all_again s F r f x fits =
 abbrev pub AreMany : {A : Type 0} → (A → Type 0) → ℕ → List A → Type 0
 AreMany F n xs = (length xs ≡ n) × AllByRecursion F xs
 
-many_takes : {A : Type 0} (s : A → List ℕ) (F : A → Type 0) (r : List ℕ → Read A) → IsField s F r
+many_takes : {A : Type 0} {s : A → List ℕ} {F : A → Type 0} {r : List ℕ → Read A} → IsField s F r
     → (n : ℕ) (bytes : List ℕ) (x : List A × List ℕ) → IsBytes bytes → many r n bytes ≡ Some x
     → Takes bytes (flat_map s x.0) x.1 × AreMany F n x.0
 unfolding many
-many_takes {A} s F r f zero bytes x fits e =
+many_takes {A} {s} {F} {r} f zero bytes x fits e =
     subst (λ (y : List A × List ℕ). Takes bytes (flat_map s y.0) y.1 × AreMany F zero y.0)
     (some_is ([], bytes) x e) (record { parts = refl; are_bytes = fits }, (refl, tt))
-many_takes {A} s F r f (suc n) bytes x fits e =
+many_takes {A} {s} {F} {r} f (suc n) bytes x fits e =
     let a = bind_some (r bytes) (λ y. many r n y.1 >>= λ z. Some (y.0 ∷ z.0, z.1)) x e in
     let b = bind_some (many r n a.0.1) (λ z. Some (a.0.0 ∷ z.0, z.1)) x a.2 in
     let t0 = f.takes bytes a.0 fits a.1 in
-    let t1 = many_takes s F r f n a.0.1 b.0 t0.0.are_bytes b.1 in
+    let t1 = many_takes f n a.0.1 b.0 t0.0.are_bytes b.1 in
     let made : List A × List ℕ = (a.0.0 ∷ b.0.0, b.0.1) in
     subst (λ (y : List A × List ℕ). Takes bytes (flat_map s y.0) y.1 × AreMany F (suc n) y.0)
     (some_is made x b.2) (
@@ -77,26 +123,24 @@ many_takes {A} s F r f (suc n) bytes x fits e =
       (ap (λ (k : ℕ). suc k) t1.1.0, (t0.1, t1.1.1)),
     )
 
-many_again : {A : Type 0} (s : A → List ℕ) (F : A → Type 0) (r : List ℕ → Read A) → IsField s F r
+many_again : {A : Type 0} {s : A → List ℕ} {F : A → Type 0} {r : List ℕ → Read A} → IsField s F r
     → (xs : List A) (rest : List ℕ) → AllByRecursion F xs
     → many r (length xs) (flat_map s xs ++ rest) ≡ Some (xs, rest)
 unfolding many
-many_again s F r f [] rest fits = refl
-many_again s F r f (x ∷ xs) rest fits =
+many_again f [] rest fits = refl
+many_again {A} {s} {F} {r} f (x ∷ xs) rest fits =
     let regrouped : flat_map s (x ∷ xs) ++ rest ≡ s x ++ (flat_map s xs ++ rest) =
     append_assoc (s x) (flat_map s xs) rest in
-    ap (many r (suc (length xs))) regrouped ∙ rw (
-      f.again x (flat_map s xs ++ rest) fits.0,
-      many_again s F r f xs rest fits.1,
-    ) refl
+    ap (many r (suc (length xs))) regrouped
+    ∙ rw (f.again x (flat_map s xs ++ rest) fits.0, many_again f xs rest fits.1) refl
 
-pub many_field : {A : Type 0} (s : A → List ℕ) (F : A → Type 0) (r : List ℕ → Read A)
+pub many_field : {A : Type 0} {s : A → List ℕ} {F : A → Type 0} {r : List ℕ → Read A}
     → IsField s F r → (n : ℕ) → IsField (flat_map s) (AreMany F n) (many r n)
-many_field {A} s F r f n = record {
-  takes = many_takes s F r f n;
+many_field {A} {s} {F} {r} f n = record {
+  takes = many_takes f n;
   again = λ xs rest fits.
       subst (λ (k : ℕ). many r k (flat_map s xs ++ rest) ≡ Some (xs, rest)) fits.0
-      (many_again s F r f xs rest fits.1);
+      (many_again f xs rest fits.1);
 }
 
 -- ---- one byte for a member of a list

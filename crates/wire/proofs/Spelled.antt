@@ -1,11 +1,8 @@
 -- The laws of spellings.
 use Rattle.std.proofs.Common.{ℕ, List, [], sym, ap, ◌∙◌}
 use Rattle.std.proofs.lemmas.List.{append-nil}
-use Rattle.wire.specs.declared.frame.Frame.{Frame}
+use Rattle.wire.specs.{declared.frame.Frame.Frame, Ranges.IsFrame, Spelling.spelling, Stream.front}
 use Rattle.wire.specs.Laws.{AreBytes, IsReadWhereSpelled, BeginsNoOther}
-use Rattle.wire.specs.Ranges.{IsFrame}
-use Rattle.wire.specs.Spelling.{spelling}
-use Rattle.wire.specs.Stream.{front}
 use Rattle.wire.proofs.Streams.{front_takes, front_again, prefix_free}
 
 pub read_where_spelled : (bytes : List ℕ) (f : Frame) (rest : List ℕ) → AreBytes bytes

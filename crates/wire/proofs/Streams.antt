@@ -6,31 +6,19 @@ use Rattle.std.specs.Int.{w32, to_be_bytes, from_be_bytes}
 use Rattle.std.proofs.lemmas.Bool.{ltb-false, le-ltb}
 use Rattle.std.proofs.lemmas.List.{take_at, drop_at, take-append-drop, length-append, length-take}
 use Rattle.acceptor.specs.declared.message.Report.{Report}
-use Rattle.wire.specs.declared.fault.WireFault.{WireFault}
-use Rattle.wire.specs.declared.fault.WireFault.TheVariants.{BadLength}
-use Rattle.wire.specs.declared.frame.Frame.{Frame}
-use Rattle.wire.specs.declared.values.CommandState.{CommandState}
-use Rattle.wire.specs.declared.values.CommandState.TheVariants as states
-use Rattle.wire.specs.declared.values.Version.{Version}
-use Rattle.wire.specs.declared.frame.FrameBody.{FrameBody}
-use Rattle.wire.specs.declared.frame.FrameBody.TheVariants as variant
-use Rattle.wire.specs.declared.frame.FrameBody.TheVariants.{Prepare, Promise, Accept, Accepted}
-use Rattle.wire.specs.declared.frame.FrameBody.TheVariants.{Nack}
-use Rattle.wire.specs.declared.frame.FrameBody.TheVariants.{Behind, Decided, Submit, Ask, Sheet}
-use Rattle.wire.specs.declared.frame.FrameBody.TheVariants.{Tick}
-use Rattle.wire.specs.declared.frame.FrameBody.TheVariants.{Stop, Taken, Told, SheetText, Refused}
-use Rattle.wire.specs.declared.frame.FrameBody.TheVariants.{Fine}
-use Rattle.wire.specs.declared.frame.FrameBody.TheVariants.{Status, Log, Await}
-use Rattle.wire.specs.Ranges.{IsReport, IsBody, IsFrame}
-use Rattle.wire.specs.Reading.{between, frame_of}
+use Rattle.wire.specs.declared.fault.WireFault.{WireFault, TheVariants.BadLength}
+use Rattle.wire.specs.{declared.frame.Frame.Frame, Ranges.IsBody, Reading.between, Reading.frame_of}
+use Rattle.wire.specs.declared.values.{CommandState.CommandState, Version.Version}
+use Rattle.wire.specs.declared.frame.FrameBody.{FrameBody, TheVariants.SheetText}
+use Rattle.wire.specs.declared.frame.FrameBody.TheVariants.{Promise, Accept, Decided, Submit, Told}
+use Rattle.wire.{specs.Ranges.IsReport, proofs.Whole.frame_takes, proofs.Whole.frame_again}
+use Rattle.wire.{specs.Ranges.IsFrame, proofs.FieldLaws.between_is, proofs.FieldLaws.between_holds}
 use Rattle.wire.specs.Spelling.{report_bytes, state_bytes, body, inside, spelling}
 use Rattle.wire.specs.Stream.{Front, Waits, Begins, Breaks, by_frame, by_length, front}
 use Rattle.wire.proofs.Taking.{IsBytes, IsBytes-take, IsBytes-drop, wide32}
-use Rattle.wire.proofs.FieldLaws.{between_is, between_holds}
-use Rattle.wire.proofs.Runs.{run_short}
-use Rattle.wire.proofs.LogRuns.{log_short}
-use Rattle.wire.proofs.Standings.{standing_short}
-use Rattle.wire.proofs.Whole.{frame_takes, frame_again}
+use Rattle.wire.proofs.{Runs.run_short, LogRuns.log_short, Standings.standing_short}
+use Rattle.wire.specs.declared.values.CommandState.TheVariants as states
+use Rattle.wire.specs.declared.frame.FrameBody.TheVariants as variant
 
 -- ---- lengths
 
@@ -40,32 +28,18 @@ report_short (Some r) h = omega (arith, h.1.1)
 
 state_short : (s : CommandState) → length (state_bytes s) ≤ 6
 state_short states.Unknown = omega arith
-state_short states.Pending = omega arith
-state_short (states.Done pos a) = omega arith
+state_short _ = omega arith
 
 body_short : (v : Version) (w : FrameBody) → IsBody v w → length (body v w) ≤ 299992
-body_short v (Prepare b pos) h = omega arith
 body_short v (Promise b pos vote) h = omega (arith, report_short vote h.2)
 body_short v (Accept b pos e) h = omega (arith, h.2.1)
-body_short v (Accepted b pos) h = omega arith
-body_short v (Nack b pos promised) h = omega arith
-body_short v (Behind len) h = omega arith
 body_short v (Decided pos entries) h = run_short v pos entries h
 body_short v (Submit e) h = omega (arith, h.1)
-body_short v (Ask id) h = omega arith
-body_short v (Sheet event round position style) h = omega arith
-body_short v Tick h = omega arith
-body_short v Stop h = omega arith
-body_short v (Taken id) h = omega arith
 body_short v (Told id s) h = omega (arith, state_short s)
 body_short v (SheetText bytes) h = h
-body_short v (Refused refusal) h = omega arith
-body_short v Fine h = omega arith
-body_short v Status h = omega arith
-body_short v (Log position) h = omega arith
-body_short v (Await id seconds) h = omega arith
 body_short v (variant.Standing s) h = standing_short v s h.1
 body_short v (variant.Entries position len entries) h = log_short position len entries h.1
+body_short v _ h = omega arith
 
 inside_length : (f : Frame) → IsFrame f → (8 ≤ length (inside f)) × (length (inside f) ≤ 300000)
 inside_length f fits =
@@ -123,14 +97,12 @@ front_takes bytes f rest fits e =
     let t = frame_takes (take n behind) f (IsBytes-take n behind behind_fit)
     (omega (arith, len, size.1)) d.0 in
     let head : to_be_bytes w32 n ≡ take 4 bytes =
-    wide32.back (take 4 bytes) (omega (arith, length-take 4 bytes))
-    (IsBytes-take 4 bytes fits) in
+    wide32.back (take 4 bytes) (omega (arith, length-take 4 bytes)) (IsBytes-take 4 bytes fits) in
     let number : n ≡ length (inside f) = sym len ∙ ap (λ (x : List ℕ). length x) t.spelled in
     let spelled : bytes ≡ (to_be_bytes w32 n ++ inside f) ++ rest =
     sym (take-append-drop 4 bytes) ∙ ap (λ (x : List ℕ). x ++ behind) (sym head)
     ∙ ap (λ (x : List ℕ). to_be_bytes w32 n ++ x) (sym (take-append-drop n behind)
-    ∙ ap (λ (x : List ℕ). x ++ drop n behind) t.spelled ∙ ap (λ (x : List ℕ). inside f ++ x)
-    d.1)
+    ∙ ap (λ (x : List ℕ). x ++ drop n behind) t.spelled ∙ ap (λ (x : List ℕ). inside f ++ x) d.1)
     ∙ sym (append_assoc (to_be_bytes w32 n) (inside f) rest) in
     record {
       fits = t.fits;

@@ -1,31 +1,23 @@
 -- The kind of what was read.
 use Rattle.std.proofs.Common.{◌≡◌, ℕ, ◌+◌, ◌≤◌, Bool, true, false, cond, eqb, leb, List, [], ◌∷◌}
-use Rattle.std.proofs.Common.{length, get_or, drop, Option, Some, None, Result, Ok, Err, refl, sym}
-use Rattle.std.proofs.Common.{ap, subst, ◌∙◌, ◌||◌, arith}
-use Rattle.std.specs.Prelude.{IsOk}
-use Rattle.std.specs.Int.{w32, from_be_bytes}
-use Rattle.std.proofs.lemmas.Bool.{eqb-true}
-use Rattle.wire.specs.declared.fault.WireFault.{WireFault}
+use Rattle.std.proofs.Common.{length, get_or, drop, Option, Some, None, ap, subst, ◌∙◌, ◌||◌, arith}
+use Rattle.std.proofs.{Common.Result, Common.Ok, Common.Err, Common.refl, lemmas.Bool.eqb-true}
+use Rattle.std.{proofs.Common.sym, specs.Prelude.IsOk, specs.Int.w32, specs.Int.from_be_bytes}
+use Rattle.wire.specs.declared.fault.WireFault.{WireFault, TheVariants.NoMemory}
 use Rattle.wire.specs.declared.fault.WireFault.TheVariants.{BadLength, BadVersion, BadKind, BadBody}
-use Rattle.wire.specs.declared.fault.WireFault.TheVariants.{NoMemory}
-use Rattle.wire.specs.declared.frame.Frame.{Frame}
-use Rattle.wire.specs.declared.frame.FrameBody.{FrameBody}
+use Rattle.wire.specs.declared.{frame.Frame.Frame, values.Version.Version}
+use Rattle.wire.specs.declared.frame.FrameBody.{FrameBody, TheVariants.Decided}
 use Rattle.wire.specs.Fields.{◌>>=◌, all_of}
-use Rattle.wire.specs.Ranges.{way_of_kind, way_of}
-use Rattle.wire.specs.declared.frame.FrameBody.TheVariants.{Decided}
-use Rattle.wire.specs.declared.frame.FrameBody.TheVariants as variant
-use Rattle.wire.specs.declared.values.Version.{Version}
+use Rattle.wire.specs.{Ranges.way_of_kind, Ranges.way_of, Spelling.kind_of}
 use Rattle.wire.specs.Reading.{position_at, count_at, entries_at, decided_of, what_of, is_kind}
 use Rattle.wire.specs.Reading.{goes, frame_from, frame_in, version_of, frame_of, log_length_at}
-use Rattle.wire.specs.Reading.{log_count_at, entries_of}
-use Rattle.wire.specs.Spelling.{kind_of}
-use Rattle.wire.proofs.Taking.{bind_some, some_is}
-use Rattle.wire.specs.model.Gives.{LacksBody, GivesFrame}
+use Rattle.wire.{specs.Reading.log_count_at, specs.Reading.entries_of, proofs.Taking.bind_some}
+use Rattle.wire.{proofs.Taking.some_is, specs.model.Gives.LacksBody, specs.model.Gives.GivesFrame}
+use Rattle.wire.specs.declared.frame.FrameBody.TheVariants as variant
 
 -- fields that were read into a kind
 made : {A : Type 0} (o : Option A) (f : A → FrameBody) (kind : ℕ) (w : FrameBody)
-    → ((x : A) → kind_of (f x) ≡ kind)
-    → o >>= (λ x. Some (f x)) ≡ Some w → kind_of w ≡ kind
+    → ((x : A) → kind_of (f x) ≡ kind) → o >>= (λ x. Some (f x)) ≡ Some w → kind_of w ≡ kind
 made (Some x) f kind w number e =
     let same : f x ≡ w = cc in
     subst (λ (y : FrameBody). kind_of y ≡ kind) same (number x)
@@ -49,11 +41,9 @@ pick kind k w x y here there e = go (eqb kind k) refl e where
 run_made : (v : Version) (bytes : List ℕ) (w : FrameBody) → decided_of v bytes ≡ Some w
     → kind_of w ≡ 7
 run_made v bytes w e =
-    let a = bind_some (position_at bytes)
-    (λ p. count_at v p.1 >>= λ c. all_of (entries_at c.0) c.1
+    let a = bind_some (position_at bytes) (λ p. count_at v p.1 >>= λ c. all_of (entries_at c.0) c.1
     >>= λ es. cond (leb (p.0 + c.0) 65536) (Some (Decided p.0 es)) None) w e in
-    let b = bind_some (count_at v a.0.1)
-    (λ c. all_of (entries_at c.0) c.1
+    let b = bind_some (count_at v a.0.1) (λ c. all_of (entries_at c.0) c.1
     >>= λ es. cond (leb (a.0.0 + c.0) 65536) (Some (Decided a.0.0 es)) None) w a.2 in
     let c = bind_some (all_of (entries_at b.0.0) b.0.1)
     (λ es. cond (leb (a.0.0 + b.0.0) 65536) (Some (Decided a.0.0 es)) None) w b.2 in
@@ -69,8 +59,7 @@ log_made bytes w e =
     (λ l. log_count_at l.1 >>= λ c. all_of (entries_at c.0) c.1
     >>= λ es. cond (eqb c.0 0 || leb (a.0.0 + c.0) l.0) (Some (variant.Entries a.0.0 l.0 es)) None)
     w a.2 in
-    let c = bind_some (log_count_at b.0.1)
-    (λ c. all_of (entries_at c.0) c.1
+    let c = bind_some (log_count_at b.0.1) (λ c. all_of (entries_at c.0) c.1
     >>= λ es. cond (eqb c.0 0 || leb (a.0.0 + c.0) b.0.0)
     (Some (variant.Entries a.0.0 b.0.0 es)) None) w b.2 in
     let d = bind_some (all_of (entries_at c.0.0) c.0.1)
@@ -83,28 +72,18 @@ pub kind_is : (v : Version) (kind : ℕ) (bytes : List ℕ) (w : FrameBody)
     → what_of v kind bytes ≡ Some w → kind_of w ≡ kind
 unfolding what_of
 kind_is v kind bytes w e =
-    pick kind 1 w _ _ (made _ _ 1 w (λ x. refl))
-    (pick kind 2 w _ _ (made _ _ 2 w (λ x. refl))
-    (pick kind 3 w _ _ (made _ _ 3 w (λ x. refl))
-    (pick kind 4 w _ _ (made _ _ 4 w (λ x. refl))
-    (pick kind 5 w _ _ (made _ _ 5 w (λ x. refl))
-    (pick kind 6 w _ _ (made _ _ 6 w (λ x. refl))
-    (pick kind 7 w _ _ (run_made v bytes w)
-    (pick kind 16 w _ _ (made _ _ 16 w (λ x. refl))
-    (pick kind 17 w _ _ (made _ _ 17 w (λ x. refl))
-    (pick kind 18 w _ _ (made _ _ 18 w (λ x. refl))
-    (pick kind 19 w _ _ (empty_made _ _ 19 w refl)
-    (pick kind 20 w _ _ (empty_made _ _ 20 w refl)
-    (pick kind 21 w _ _ (empty_made _ _ 21 w refl)
-    (pick kind 22 w _ _ (made _ _ 22 w (λ x. refl))
-    (pick kind 23 w _ _ (made _ _ 23 w (λ x. refl))
-    (pick kind 32 w _ _ (made _ _ 32 w (λ x. refl))
+    pick kind 1 w _ _ (made _ _ 1 w (λ x. refl)) (pick kind 2 w _ _ (made _ _ 2 w (λ x. refl))
+    (pick kind 3 w _ _ (made _ _ 3 w (λ x. refl)) (pick kind 4 w _ _ (made _ _ 4 w (λ x. refl))
+    (pick kind 5 w _ _ (made _ _ 5 w (λ x. refl)) (pick kind 6 w _ _ (made _ _ 6 w (λ x. refl))
+    (pick kind 7 w _ _ (run_made v bytes w) (pick kind 16 w _ _ (made _ _ 16 w (λ x. refl))
+    (pick kind 17 w _ _ (made _ _ 17 w (λ x. refl)) (pick kind 18 w _ _ (made _ _ 18 w (λ x. refl))
+    (pick kind 19 w _ _ (empty_made _ _ 19 w refl) (pick kind 20 w _ _ (empty_made _ _ 20 w refl)
+    (pick kind 21 w _ _ (empty_made _ _ 21 w refl) (pick kind 22 w _ _ (made _ _ 22 w (λ x. refl))
+    (pick kind 23 w _ _ (made _ _ 23 w (λ x. refl)) (pick kind 32 w _ _ (made _ _ 32 w (λ x. refl))
     (pick kind 33 w _ _ (made _ _ 33 w (λ x. refl))
     (pick kind 34 w _ _ (λ h. empty_made true _ 34 w refl h)
-    (pick kind 35 w _ _ (made _ _ 35 w (λ x. refl))
-    (pick kind 36 w _ _ (empty_made _ _ 36 w refl)
-    (pick kind 37 w _ _ (made _ _ 37 w (λ x. refl))
-    (pick kind 38 w _ _ (log_made bytes w)
+    (pick kind 35 w _ _ (made _ _ 35 w (λ x. refl)) (pick kind 36 w _ _ (empty_made _ _ 36 w refl)
+    (pick kind 37 w _ _ (made _ _ 37 w (λ x. refl)) (pick kind 38 w _ _ (log_made bytes w)
     (λ h. absurd cc)))))))))))))))))))))) e
 
 -- a sender or a receiver that does not fit the kind, whatever was read
@@ -120,8 +99,7 @@ turned_away v hall from to kind (Some w) read away =
 
 -- one that fits
 pub let_in : (v : Version) (hall from to kind : ℕ) (w : FrameBody) → kind_of w ≡ kind
-    → goes (way_of_kind kind) from to ≡ true
-    → frame_from v hall from to (Some w) ≡ Ok (record {
+    → goes (way_of_kind kind) from to ≡ true → frame_from v hall from to (Some w) ≡ Ok (record {
       version = v;
       hall = hall;
       from = from;
@@ -176,8 +154,7 @@ good_is v (version ∷ a ∷ b ∷ c ∷ d ∷ from ∷ to ∷ kind ∷ bytes) g
     bytes g.version g.kind
 
 pub good_read : (v : Version) (bytes : List ℕ) (w : FrameBody) → IsGood v bytes
-    → what_of v (get_or bytes 7 0) (drop 8 bytes) ≡ Some w
-    → frame_of bytes ≡ Ok (record {
+    → what_of v (get_or bytes 7 0) (drop 8 bytes) ≡ Some w → frame_of bytes ≡ Ok (record {
       version = v;
       hall = hall_at bytes;
       from = get_or bytes 5 0;
@@ -188,8 +165,7 @@ pub good_read : (v : Version) (bytes : List ℕ) (w : FrameBody) → IsGood v by
 good_read v bytes w g read =
     good_is v bytes g
     ∙ ap (λ (o : Option FrameBody). frame_from v (hall_at bytes) (get_or bytes 5 0)
-    (get_or bytes 6 0) o)
-    read
+    (get_or bytes 6 0) o) read
     ∙ let_in v (hall_at bytes) (get_or bytes 5 0) (get_or bytes 6 0) (get_or bytes 7 0) w
     (kind_is v (get_or bytes 7 0) (drop 8 bytes) w read) g.goes
 

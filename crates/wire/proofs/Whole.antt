@@ -2,36 +2,29 @@
 use Rattle.std.proofs.Common.{◌≡◌, ℕ, suc, ◌^◌, ◌<◌, ◌≤◌, Bool, true, false, cond, eqb, not, List}
 use Rattle.std.proofs.Common.{[], ◌∷◌, ◌++◌, length, Option, Some, None, Result, Ok, Err, refl, sym}
 use Rattle.std.proofs.Common.{ap, subst, ◌∙◌, arith}
-use Rattle.std.specs.Int.{w32, to_be_bytes, from_be_bytes}
-use Rattle.std.proofs.lemmas.Bool.{eqb-true, or_right}
-use Rattle.std.proofs.lemmas.List.{nil_from_length}
-use Rattle.wire.specs.declared.fault.WireFault.{WireFault}
-use Rattle.wire.specs.declared.fault.WireFault.TheVariants.{BadKind, BadBody}
-use Rattle.wire.specs.declared.frame.Frame.{Frame}
-use Rattle.wire.specs.declared.frame.FrameBody.{FrameBody}
-use Rattle.wire.specs.declared.frame.FrameBody.TheVariants as variant
-use Rattle.wire.specs.declared.frame.FrameBody.TheVariants.{Prepare, Promise, Accept, Accepted}
-use Rattle.wire.specs.declared.frame.FrameBody.TheVariants.{Nack}
-use Rattle.wire.specs.declared.frame.FrameBody.TheVariants.{Behind, Decided, Submit, Ask, Sheet}
-use Rattle.wire.specs.declared.frame.FrameBody.TheVariants.{Tick}
-use Rattle.wire.specs.declared.frame.FrameBody.TheVariants.{Stop, Taken, Told, SheetText, Refused}
-use Rattle.wire.specs.declared.frame.FrameBody.TheVariants.{Fine}
-use Rattle.wire.specs.declared.frame.FrameBody.TheVariants.{Status, Log, Await}
-use Rattle.std.specs.List.{list_any}
+use Rattle.std.specs.{Int.w32, Int.to_be_bytes, Int.from_be_bytes, List.list_any}
+use Rattle.std.proofs.lemmas.{Bool.eqb-true, Bool.or_right, List.nil_from_length}
+use Rattle.wire.specs.declared.fault.WireFault.{WireFault, TheVariants.BadKind, TheVariants.BadBody}
+use Rattle.wire.specs.declared.frame.{Frame.Frame, FrameBody.FrameBody}
+use Rattle.wire.specs.declared.frame.FrameBody.TheVariants.{Prepare, Promise, Accepted, SheetText}
+use Rattle.wire.specs.declared.frame.FrameBody.TheVariants.{Accept, Behind, Decided, Sheet, Refused}
+use Rattle.wire.specs.declared.frame.FrameBody.TheVariants.{Nack, Submit, Ask, Taken, Status, Await}
+use Rattle.wire.specs.declared.frame.FrameBody.TheVariants.{Tick, Stop, Told, Fine, Log}
 use Rattle.wire.specs.Ranges.{Way, Between, FromClient, ToClient, way_of, Goes, IsBody, IsFrame}
-use Rattle.wire.specs.declared.values.Version.{Version}
+use Rattle.wire.{specs.declared.values.Version.Version, proofs.Sequences.numbered_is}
 use Rattle.wire.specs.declared.values.Version.TheVariants.{One, Two, Three, Four, Five}
 use Rattle.wire.specs.Numbers.{IsFromThree, IsFromFive, versions, version_number}
 use Rattle.wire.specs.Reading.{empty_of, what_of, is_kind, is_desk, goes, frame_from, frame_in}
-use Rattle.wire.specs.Reading.{version_of, frame_of, first_kinds, later_kinds, last_kinds}
+use Rattle.wire.specs.Reading.{version_of, frame_of, first_kinds, later_kinds}
 use Rattle.wire.specs.Spelling.{kind_of, body, inside}
 use Rattle.wire.proofs.Taking.{IsBytes, IsBytes-take, passed, wide32}
 use Rattle.wire.proofs.FieldLaws.{and_true, both_true, between_is, between_holds}
-use Rattle.wire.proofs.Sequences.{numbered_is}
-use Rattle.wire.proofs.Frames.{IsWhat, prepare_takes, promise_takes, accept_takes, accepted_takes}
-use Rattle.wire.proofs.Frames.{nack_takes, behind_takes, decided_takes, submit_takes, ask_takes}
-use Rattle.wire.proofs.Frames.{sheet_takes, taken_takes, told_takes, refused_takes, what_again}
-use Rattle.wire.proofs.Frames.{position_takes, await_takes, standing_takes, entries_takes}
+use Rattle.wire.proofs.Frames.{IsWhat, taken_as, decided_takes, standing_takes, entries_takes}
+use Rattle.wire.proofs.{Frames.what_again, Sequences.two_fields, FieldLaws.ballot_field}
+use Rattle.wire.proofs.FieldLaws.{position_field, report_field, entry_field, limited_field}
+use Rattle.wire.proofs.FieldLaws.{log_length_field, byte_field, any_field, id_field}
+use Rattle.wire.proofs.Bodies.{event_field, style_field, refusal_field, standing_field}
+use Rattle.wire.specs.declared.frame.FrameBody.TheVariants as variant
 
 -- a kind without fields
 empty_takes : (v : Version) (kind : ℕ) (what : FrameBody) (bytes : List ℕ) (w : FrameBody)
@@ -52,11 +45,13 @@ text_takes v bytes w short e =
 
 -- one test of the chain: the kind is this one, or the chain goes on
 pick : (v : Version) (kind k : ℕ) (bytes : List ℕ) (w : FrameBody) (x y : Option FrameBody)
-    → (x ≡ Some w → IsWhat v k bytes w) → (y ≡ Some w → IsWhat v kind bytes w)
+    → (kind ≡ k → x ≡ Some w → IsWhat v k bytes w) → (y ≡ Some w → IsWhat v kind bytes w)
     → cond (eqb kind k) x y ≡ Some w → IsWhat v kind bytes w
 pick v kind k bytes w x y here there e = go (eqb kind k) refl e where
   go : (b : Bool) → eqb kind k ≡ b → cond b x y ≡ Some w → IsWhat v kind bytes w
-  go true t h = subst (λ (n : ℕ). IsWhat v n bytes w) (sym (eqb-true _ _ t)) (here h)
+  go true t h =
+      let is : kind ≡ k = eqb-true _ _ t in
+      subst (λ (n : ℕ). IsWhat v n bytes w) (sym is) (here is h)
   go false t h = there h
 
 -- whether a kind is one of every version
@@ -77,87 +72,81 @@ first_kind Four kind e = more_kinds kind e
 first_kind Five kind e = or_right (eqb 23 kind) _ (more_kinds kind e)
 
 -- the version of a kind that is none of them is one from 3 on
-later_kind : (v : Version) (kind : ℕ) → is_first kind ≡ false → is_kind v kind ≡ true
+later : (v : Version) (kind k : ℕ) → is_kind v kind ≡ true → is_first k ≡ false → kind ≡ k
     → IsFromThree v
-later_kind One kind none e = let bad : true ≡ false = sym e ∙ none in absurd cc
-later_kind Two kind none e = let bad : true ≡ false = sym e ∙ none in absurd cc
-later_kind Three kind none e = omega arith
-later_kind Four kind none e = omega arith
-later_kind Five kind none e = omega arith
-
--- the test of a kind that is none of them
-pick_later : (v : Version) (kind k : ℕ) (bytes : List ℕ) (w : FrameBody) (x y : Option FrameBody)
-    → is_kind v kind ≡ true → is_first k ≡ false
-    → (IsFromThree v → x ≡ Some w → IsWhat v k bytes w) → (y ≡ Some w → IsWhat v kind bytes w)
-    → cond (eqb kind k) x y ≡ Some w → IsWhat v kind bytes w
-pick_later v kind k bytes w x y has none here there e = go (eqb kind k) refl e where
-  go : (b : Bool) → eqb kind k ≡ b → cond b x y ≡ Some w → IsWhat v kind bytes w
-  go true t h =
-      let three : IsFromThree v =
-      later_kind v k none (subst (λ (n : ℕ). is_kind v n ≡ true) (eqb-true _ _ t) has) in
-      subst (λ (n : ℕ). IsWhat v n bytes w) (sym (eqb-true _ _ t)) (here three h)
-  go false t h = there h
+later v kind k has none is = go v (subst (λ (n : ℕ). is_kind v n ≡ true) is has) where
+  go : (v : Version) → is_kind v k ≡ true → IsFromThree v
+  go One e = let bad : true ≡ false = sym e ∙ none in absurd cc
+  go Two e = let bad : true ≡ false = sym e ∙ none in absurd cc
+  go _ e = omega arith
 
 -- whether a kind is one of the versions before 5
 abbrev is_earlier : ℕ → Bool
 is_earlier kind = list_any (λ k. eqb k kind) later_kinds
 
 -- the version of a kind that is none of them is 5
-last_kind : (v : Version) (kind : ℕ) → is_earlier kind ≡ false → is_kind v kind ≡ true
+last : (v : Version) (kind k : ℕ) → is_kind v kind ≡ true → is_earlier k ≡ false → kind ≡ k
     → IsFromFive v
-last_kind One kind none e =
-    let bad : true ≡ false = sym (more_kinds kind e) ∙ none in absurd cc
-last_kind Two kind none e =
-    let bad : true ≡ false = sym (more_kinds kind e) ∙ none in absurd cc
-last_kind Three kind none e = let bad : true ≡ false = sym e ∙ none in absurd cc
-last_kind Four kind none e = let bad : true ≡ false = sym e ∙ none in absurd cc
-last_kind Five kind none e = omega arith
-
--- the test of such a kind
-pick_last : (v : Version) (kind k : ℕ) (bytes : List ℕ) (w : FrameBody) (x y : Option FrameBody)
-    → is_kind v kind ≡ true → is_earlier k ≡ false
-    → (IsFromFive v → x ≡ Some w → IsWhat v k bytes w) → (y ≡ Some w → IsWhat v kind bytes w)
-    → cond (eqb kind k) x y ≡ Some w → IsWhat v kind bytes w
-pick_last v kind k bytes w x y has none here there e = go (eqb kind k) refl e where
-  go : (b : Bool) → eqb kind k ≡ b → cond b x y ≡ Some w → IsWhat v kind bytes w
-  go true t h =
-      let five : IsFromFive v =
-      last_kind v k none (subst (λ (n : ℕ). is_kind v n ≡ true) (eqb-true _ _ t) has) in
-      subst (λ (n : ℕ). IsWhat v n bytes w) (sym (eqb-true _ _ t)) (here five h)
-  go false t h = there h
+last v kind k has none is = go v (subst (λ (n : ℕ). is_kind v n ≡ true) is has) where
+  go : (v : Version) → is_kind v k ≡ true → IsFromFive v
+  go One e = let bad : true ≡ false = sym (more_kinds k e) ∙ none in absurd cc
+  go Two e = let bad : true ≡ false = sym (more_kinds k e) ∙ none in absurd cc
+  go Three e = let bad : true ≡ false = sym e ∙ none in absurd cc
+  go Four e = let bad : true ≡ false = sym e ∙ none in absurd cc
+  go Five e = omega arith
 
 pub what_takes : (v : Version) (kind : ℕ) (bytes : List ℕ) (w : FrameBody) → is_kind v kind ≡ true
-    → IsBytes bytes → length bytes ≤ 299992 → what_of v kind bytes ≡ Some w
-    → IsWhat v kind bytes w
+    → IsBytes bytes → length bytes ≤ 299992 → what_of v kind bytes ≡ Some w → IsWhat v kind bytes w
 unfolding what_of
 what_takes v kind bytes w has fits short e =
-    pick v kind 1 bytes w _ _ (prepare_takes v bytes w fits)
-    (pick v kind 2 bytes w _ _ (promise_takes v bytes w fits)
-    (pick v kind 3 bytes w _ _ (accept_takes v bytes w fits)
-    (pick v kind 4 bytes w _ _ (accepted_takes v bytes w fits)
-    (pick v kind 5 bytes w _ _ (nack_takes v bytes w fits)
-    (pick v kind 6 bytes w _ _ (behind_takes v bytes w fits)
-    (pick v kind 7 bytes w _ _ (decided_takes v bytes w fits)
-    (pick v kind 16 bytes w _ _ (submit_takes v bytes w fits)
-    (pick v kind 17 bytes w _ _ (ask_takes v bytes w fits)
-    (pick v kind 18 bytes w _ _ (sheet_takes v bytes w fits)
-    (pick v kind 19 bytes w _ _ (empty_takes v 19 Tick bytes w refl refl tt)
-    (pick v kind 20 bytes w _ _ (empty_takes v 20 Stop bytes w refl refl tt)
-    (pick_later v kind 21 bytes w _ _ has refl
-    (λ three. empty_takes v 21 Status bytes w refl refl three)
-    (pick_later v kind 22 bytes w _ _ has refl
-    (λ three. position_takes v bytes w three fits)
-    (pick_last v kind 23 bytes w _ _ has refl
-    (λ five. await_takes v bytes w five fits)
-    (pick v kind 32 bytes w _ _ (taken_takes v bytes w fits)
-    (pick v kind 33 bytes w _ _ (told_takes v bytes w fits)
-    (pick v kind 34 bytes w _ _ (text_takes v bytes w short)
-    (pick v kind 35 bytes w _ _ (refused_takes v bytes w fits)
-    (pick v kind 36 bytes w _ _ (empty_takes v 36 Fine bytes w refl refl tt)
-    (pick_later v kind 37 bytes w _ _ has refl
-    (λ three. standing_takes v bytes w three fits)
-    (pick_later v kind 38 bytes w _ _ has refl
-    (λ three. entries_takes v bytes w three fits)
+    pick v kind 1 bytes w _ _ (λ _. taken_as (two_fields ballot_field position_field) v 1
+    (λ x. Prepare x.0 x.1) (λ x h. record { number = refl; spelled = refl; fits = h }) bytes w fits)
+    (pick v kind 2 bytes w _ _ (λ _. taken_as
+    (two_fields ballot_field (two_fields position_field report_field)) v 2
+    (λ x. Promise x.0 x.1.0 x.1.1)
+    (λ x h. record { number = refl; spelled = refl; fits = (h.0, h.1.0, h.1.1) }) bytes w fits)
+    (pick v kind 3 bytes w _ _ (λ _. taken_as
+    (two_fields ballot_field (two_fields position_field entry_field)) v 3
+    (λ x. Accept x.0 x.1.0 x.1.1)
+    (λ x h. record { number = refl; spelled = refl; fits = (h.0, h.1.0, h.1.1) }) bytes w fits)
+    (pick v kind 4 bytes w _ _ (λ _. taken_as (two_fields ballot_field position_field) v 4
+    (λ x. Accepted x.0 x.1) (λ x h. record { number = refl; spelled = refl; fits = h }) bytes w fits)
+    (pick v kind 5 bytes w _ _ (λ _. taken_as
+    (two_fields ballot_field (two_fields position_field ballot_field)) v 5
+    (λ x. Nack x.0 x.1.0 x.1.1)
+    (λ x h. record { number = refl; spelled = refl; fits = (h.0, h.1.0, h.1.1) }) bytes w fits)
+    (pick v kind 6 bytes w _ _ (λ _. taken_as (limited_field 65536 (omega arith)) v 6
+    (λ x. Behind x) (λ x h. record { number = refl; spelled = refl; fits = h }) bytes w fits)
+    (pick v kind 7 bytes w _ _ (λ _. decided_takes v bytes w fits)
+    (pick v kind 16 bytes w _ _ (λ _. taken_as entry_field v 16
+    (λ x. Submit x) (λ x h. record { number = refl; spelled = refl; fits = h }) bytes w fits)
+    (pick v kind 17 bytes w _ _ (λ _. taken_as id_field v 17
+    (λ x. Ask x) (λ x h. record { number = refl; spelled = refl; fits = h }) bytes w fits)
+    (pick v kind 18 bytes w _ _ (λ _. taken_as (two_fields (event_field v)
+    (two_fields byte_field (two_fields any_field style_field))) v 18
+    (λ x. Sheet x.0 x.1.0 x.1.1.0 x.1.1.1)
+    (λ x h. record { number = refl; spelled = refl; fits = (h.0, h.1.0, h.1.1.0) }) bytes w fits)
+    (pick v kind 19 bytes w _ _ (λ _. empty_takes v 19 Tick bytes w refl refl tt)
+    (pick v kind 20 bytes w _ _ (λ _. empty_takes v 20 Stop bytes w refl refl tt)
+    (pick v kind 21 bytes w _ _
+    (λ is. empty_takes v 21 Status bytes w refl refl (later v kind 21 has refl is))
+    (pick v kind 22 bytes w _ _ (λ is. taken_as log_length_field v 22 (λ x. Log x)
+    (λ x h. record { number = refl; spelled = refl; fits = (later v kind 22 has refl is, h) })
+    bytes w fits) (pick v kind 23 bytes w _ _ (λ is. taken_as (two_fields id_field byte_field) v 23
+    (λ x. Await x.0 x.1) (λ x h. record {
+      number = refl;
+      spelled = refl;
+      fits = (last v kind 23 has refl is, h.0, h.1);
+    }) bytes w fits) (pick v kind 32 bytes w _ _ (λ _. taken_as id_field v 32
+    (λ x. Taken x) (λ x h. record { number = refl; spelled = refl; fits = h }) bytes w fits)
+    (pick v kind 33 bytes w _ _ (λ _. taken_as (two_fields id_field (standing_field v)) v 33
+    (λ x. Told x.0 x.1) (λ x h. record { number = refl; spelled = refl; fits = h }) bytes w fits)
+    (pick v kind 34 bytes w _ _ (λ _. text_takes v bytes w short)
+    (pick v kind 35 bytes w _ _ (λ _. taken_as (refusal_field v) v 35
+    (λ x. Refused x) (λ x h. record { number = refl; spelled = refl; fits = h }) bytes w fits)
+    (pick v kind 36 bytes w _ _ (λ _. empty_takes v 36 Fine bytes w refl refl tt)
+    (pick v kind 37 bytes w _ _ (λ is. standing_takes v bytes w (later v kind 37 has refl is) fits)
+    (pick v kind 38 bytes w _ _ (λ is. entries_takes v bytes w (later v kind 38 has refl is) fits)
     (λ h. absurd cc)))))))))))))))))))))) e
 
 -- ---- the bytes after a length
@@ -192,11 +181,8 @@ is_later Five kind three e = or_right (eqb 23 kind) _ e
 
 -- the kind of version 5
 is_last : (v : Version) → IsFromFive v → is_kind v 23 ≡ true
-is_last One five = absurd (omega (arith, five))
-is_last Two five = absurd (omega (arith, five))
-is_last Three five = absurd (omega (arith, five))
-is_last Four five = absurd (omega (arith, five))
 is_last Five five = refl
+is_last _ five = absurd (omega (arith, five))
 
 kind_is : (v : Version) (w : FrameBody) → IsBody v w → is_kind v (kind_of w) ≡ true
 kind_is v (Prepare b pos) fits = first_kind v 1 refl
@@ -239,8 +225,7 @@ pub record IsInside (bytes : List ℕ) (f : Frame) : Type 0 where
   pub spelled : bytes ≡ inside f
 
 from_takes : (v : Version) (hall from to kind : ℕ) (bytes : List ℕ) (o : Option FrameBody)
-    (f : Frame)
-    → hall < 2 ^ 32
+    (f : Frame) → hall < 2 ^ 32
     → ((w : FrameBody) → o ≡ Some w → IsWhat v kind bytes w) → frame_from v hall from to o ≡ Ok f
     → IsFrame f × (version_number v ∷ to_be_bytes w32 hall ++ from ∷ to ∷ kind ∷ bytes ≡ inside f)
 from_takes v hall from to kind bytes None f small taken e = absurd cc
@@ -283,14 +268,6 @@ in_takes (Some v) n hall from to kind bytes f is small fits short e =
 pub frame_takes : (bytes : List ℕ) (f : Frame) → IsBytes bytes → length bytes ≤ 300000
     → frame_of bytes ≡ Ok f → IsInside bytes f
 unfolding frame_of
-frame_takes [] f fits short e = absurd cc
-frame_takes (version ∷ []) f fits short e = absurd cc
-frame_takes (version ∷ a ∷ []) f fits short e = absurd cc
-frame_takes (version ∷ a ∷ b ∷ []) f fits short e = absurd cc
-frame_takes (version ∷ a ∷ b ∷ c ∷ []) f fits short e = absurd cc
-frame_takes (version ∷ a ∷ b ∷ c ∷ d ∷ []) f fits short e = absurd cc
-frame_takes (version ∷ a ∷ b ∷ c ∷ d ∷ from ∷ []) f fits short e = absurd cc
-frame_takes (version ∷ a ∷ b ∷ c ∷ d ∷ from ∷ to ∷ []) f fits short e = absurd cc
 frame_takes (version ∷ a ∷ b ∷ c ∷ d ∷ from ∷ to ∷ kind ∷ bytes) f fits short e =
     let four : List ℕ = a ∷ b ∷ c ∷ d ∷ [] in
     let four_fit : IsBytes four = IsBytes-take 4 (a ∷ b ∷ c ∷ d ∷ from ∷ to ∷ kind ∷ bytes)
@@ -304,13 +281,11 @@ frame_takes (version ∷ a ∷ b ∷ c ∷ d ∷ from ∷ to ∷ kind ∷ bytes)
     hall ++ from ∷ to ∷ kind ∷ bytes =
     ap (λ (h : List ℕ). version ∷ (h ++ from ∷ to ∷ kind ∷ bytes)) (sym same) in
     record { fits = t.0; spelled = front ∙ t.1 }
+frame_takes _ f fits short e = absurd cc
 
 pub version_again : (v : Version) → version_of (version_number v) ≡ Some v
 version_again One = refl
-version_again Two = refl
-version_again Three = refl
-version_again Four = refl
-version_again Five = refl
+version_again _ = refl
 
 framed : (a b c d : ℕ) (f : Frame) → from_be_bytes w32 (a ∷ b ∷ c ∷ d ∷ []) ≡ f.hall → IsFrame f
     → frame_of (version_number f.version ∷ a ∷ b ∷ c ∷ d ∷ f.from ∷ f.to ∷ kind_of f.what ∷
@@ -328,12 +303,8 @@ framed a b c d f hall fits = rw (
 four_cells : (h : List ℕ) (f : Frame) → length h ≡ 4 → from_be_bytes w32 h ≡ f.hall → IsFrame f
     → frame_of (version_number f.version ∷ (h ++ f.from ∷ f.to ∷ kind_of f.what ∷
     body f.version f.what)) ≡ Ok f
-four_cells [] f len hall fits = absurd (omega (arith, len))
-four_cells (a ∷ []) f len hall fits = absurd (omega (arith, len))
-four_cells (a ∷ b ∷ []) f len hall fits = absurd (omega (arith, len))
-four_cells (a ∷ b ∷ c ∷ []) f len hall fits = absurd (omega (arith, len))
 four_cells (a ∷ b ∷ c ∷ d ∷ []) f len hall fits = framed a b c d f hall fits
-four_cells (a ∷ b ∷ c ∷ d ∷ e ∷ more) f len hall fits = absurd (omega (arith, len))
+four_cells _ f len hall fits = absurd (omega (arith, len))
 
 pub frame_again : (f : Frame) → IsFrame f → frame_of (inside f) ≡ Ok f
 frame_again f fits = four_cells (to_be_bytes w32 f.hall) f refl (wide32.again f.hall fits.hall) fits

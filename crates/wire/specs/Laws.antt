@@ -1,16 +1,10 @@
 -- What the spellings of frames keep to (as docs/FORMATS.md has it).
 use Rattle.std.specs.Prelude.{◌≡◌, ◌⊎◌, ◌↔◌, ℕ, ◌+◌, ◌<◌, ◌≤◌, true, false, List, [], ◌++◌, length}
-use Rattle.std.specs.Prelude.{take, slice_index}
-use Rattle.std.specs.Int.{w32, from_be_bytes}
-use Rattle.wire.specs.declared.fault.WireFault.{WireFault}
+use Rattle.std.specs.{Prelude.take, Prelude.slice_index, Int.w32, Int.from_be_bytes}
+use Rattle.wire.specs.declared.fault.WireFault.{WireFault, TheVariants.NoMemory}
 use Rattle.wire.specs.declared.fault.WireFault.TheVariants.{BadLength, BadVersion, BadKind, BadBody}
-use Rattle.wire.specs.declared.fault.WireFault.TheVariants.{NoMemory}
-use Rattle.wire.specs.declared.frame.Frame.{Frame}
-use Rattle.wire.specs.declared.values.Version.{Version}
-use Rattle.wire.specs.Numbers.{version_number}
-use Rattle.wire.specs.Ranges.{IsFrame}
-use Rattle.wire.specs.Spelling.{spelling}
-use Rattle.wire.specs.Reading.{is_kind}
+use Rattle.wire.specs.declared.{frame.Frame.Frame, values.Version.Version}
+use Rattle.wire.specs.{Numbers.version_number, Ranges.IsFrame, Spelling.spelling, Reading.is_kind}
 use Rattle.wire.specs.Stream.{front, Begins, Breaks}
 
 -- each number is one of a byte
@@ -59,8 +53,7 @@ IsFirstFault BadVersion bytes = IsWhole bytes × ¬ IsVersion (slice_index bytes
 IsFirstFault BadKind bytes =
     IsWhole bytes × LacksKind (slice_index bytes 4) (slice_index bytes 11)
 IsFirstFault BadBody bytes =
-    IsWhole bytes × HasKind (slice_index bytes 4) (slice_index bytes 11)
-    × ¬ BeginsWithFrame bytes
+    IsWhole bytes × HasKind (slice_index bytes 4) (slice_index bytes 11) × ¬ BeginsWithFrame bytes
 IsFirstFault NoMemory bytes = ⊥
 
 -- a fault is at the front of bytes exactly where it is the first

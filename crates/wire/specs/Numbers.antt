@@ -1,21 +1,18 @@
 -- The numbers that versions, answers, refusals and roles have on the wire (as docs/FORMATS.md has
 -- it).
 use Rattle.std.specs.Prelude.{ℕ, ◌≤◌, nat_le, if◌then◌else◌, List, [], ◌∷◌, map, None}
-use Rattle.texts.specs.declared.answer.Answer.{Answer}
+use Rattle.texts.specs.declared.answer.{Answer.Answer, Code.TheVariants.Unread}
 use Rattle.texts.specs.declared.answer.Answer.TheVariants.{Done, Refused}
-use Rattle.texts.specs.declared.answer.Code.TheVariants.{Unread}
 use Rattle.texts.specs.Codes.{every_code, code_number}
-use Rattle.wire.specs.declared.values.ClientRefusal.{ClientRefusal}
-use Rattle.wire.specs.declared.values.ClientRefusal.TheVariants as refusal
-use Rattle.wire.specs.declared.values.CommandState.{CommandState}
-use Rattle.wire.specs.declared.values.CommandState.TheVariants as state
-use Rattle.wire.specs.declared.values.DeskRole.{DeskRole}
+use Rattle.wire.specs.declared.values.{ClientRefusal.ClientRefusal, CommandState.CommandState}
+use Rattle.wire.specs.declared.values.{DeskRole.DeskRole, Version.Version}
 use Rattle.wire.specs.declared.values.DeskRole.TheVariants.{Idle, Gathering, Proposing, Leading}
 use Rattle.formats.specs.declared.styles.SheetStyle.{SheetStyle}
 use Rattle.formats.specs.declared.styles.SheetStyle.TheVariants.{Text, Table}
-use Rattle.wire.specs.declared.values.Version.{Version}
 use Rattle.wire.specs.declared.standing.DeskStatus.{DeskStatus}
 use Rattle.wire.specs.declared.values.Version.TheVariants.{One, Two, Three, Four, Five}
+use Rattle.wire.specs.declared.values.ClientRefusal.TheVariants as refusal
+use Rattle.wire.specs.declared.values.CommandState.TheVariants as state
 
 abbrev pub version_number : Version → ℕ
 version_number One = 1
@@ -38,10 +35,7 @@ IsFromFive version = 5 ≤ version_number version
 -- the last event whose sheets can be asked for in a version
 abbrev pub last_event : Version → ℕ
 last_event One = 16
-last_event Two = 17
-last_event Three = 17
-last_event Four = 17
-last_event Five = 17
+last_event _ = 17
 
 abbrev pub refusal_number : ClientRefusal → ℕ
 refusal_number refusal.Busy = 1
@@ -85,11 +79,8 @@ state_in version state.Unknown = state.Unknown
 
 -- the last refusal that a version tells
 abbrev pub last_refusal : Version → ℕ
-last_refusal One = 9
-last_refusal Two = 9
-last_refusal Three = 9
-last_refusal Four = 9
 last_refusal Five = 10
+last_refusal _ = 9
 
 -- what a version tells of a refusal: of one that it does not have, that the desk takes part no more
 abbrev pub refusal_in : Version → ClientRefusal → ClientRefusal
@@ -98,11 +89,8 @@ refusal_in version r =
 
 -- what a version tells of how a desk is: before version 5 nothing of a difference
 abbrev pub standing_in : Version → DeskStatus → DeskStatus
-standing_in One s = record s { differs = None }
-standing_in Two s = record s { differs = None }
-standing_in Three s = record s { differs = None }
-standing_in Four s = record s { differs = None }
 standing_in Five s = s
+standing_in _ s = record s { differs = None }
 
 abbrev pub answers : List Answer
 answers = Done ∷ map (λ c. Refused c) every_code

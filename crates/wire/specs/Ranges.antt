@@ -1,37 +1,25 @@
 -- What a frame may hold: the ranges of its fields (as docs/FORMATS.md has it).
-use Rattle.std.specs.Prelude.{◌≡◌, ◌⊎◌, ℕ, ◌+◌, ◌^◌, ◌≤◌, ◌<◌, List, length, Option, Some, None}
-use Rattle.std.specs.Prelude.{nat_le, if◌then◌else◌}
-use Rattle.std.specs.List.{AllByRecursion}
-use Rattle.acceptor.specs.declared.ballot.Ballot.{Ballot}
-use Rattle.acceptor.specs.declared.entry.Entry.{Entry}
-use Rattle.acceptor.specs.declared.message.Report.{Report}
-use Rattle.wire.specs.declared.frame.Frame.{Frame}
-use Rattle.wire.specs.declared.values.CommandState.{CommandState}
+use Rattle.std.specs.Prelude.{◌≡◌, ◌⊎◌, ℕ, ◌+◌, ◌^◌, ◌≤◌, ◌<◌, List, length, nat_le, if◌then◌else◌}
+use Rattle.std.specs.{Prelude.Option, Prelude.Some, Prelude.None, List.AllByRecursion}
+use Rattle.acceptor.specs.declared.{ballot.Ballot.Ballot, entry.Entry.Entry, message.Report.Report}
+use Rattle.wire.specs.declared.frame.{Frame.Frame, FrameBody.FrameBody}
+use Rattle.wire.specs.declared.values.{CommandState.CommandState, ClientRefusal.ClientRefusal}
 use Rattle.wire.specs.declared.values.CommandState.TheVariants.{Unknown, Pending, Done}
-use Rattle.wire.specs.declared.frame.FrameBody.{FrameBody}
-use Rattle.wire.specs.declared.frame.FrameBody.TheVariants as variant
 use Rattle.wire.specs.declared.frame.FrameBody.TheVariants.{Prepare, Promise, Accept, Accepted}
-use Rattle.wire.specs.declared.frame.FrameBody.TheVariants.{Nack}
-use Rattle.wire.specs.declared.frame.FrameBody.TheVariants.{Behind, Decided, Submit, Ask, Sheet}
-use Rattle.wire.specs.declared.frame.FrameBody.TheVariants.{Tick}
-use Rattle.wire.specs.declared.frame.FrameBody.TheVariants.{Stop, Taken, Told, SheetText, Refused}
-use Rattle.wire.specs.declared.frame.FrameBody.TheVariants.{Fine}
+use Rattle.wire.specs.declared.frame.FrameBody.TheVariants.{Nack, Behind, Decided, Submit, Ask}
+use Rattle.wire.specs.declared.frame.FrameBody.TheVariants.{Sheet, Taken, Told, SheetText, Refused}
 use Rattle.wire.specs.declared.frame.FrameBody.TheVariants.{Status, Log, Await}
-use Rattle.wire.specs.declared.standing.Lengths.{Lengths}
+use Rattle.wire.specs.declared.standing.{Lengths.Lengths, Difference.Difference}
 use Rattle.wire.specs.declared.standing.Lengths.TheVariants.{OfThree, OfFive}
-use Rattle.wire.specs.declared.standing.Difference.{Difference}
 use Rattle.wire.specs.declared.standing.Difference.TheVariants.{OtherEntry, Shorter}
-use Rattle.wire.specs.declared.standing.DeskStatus.{DeskStatus}
-use Rattle.wire.specs.declared.values.ClientRefusal.{ClientRefusal}
-use Rattle.formats.specs.declared.events.Event.{Event}
-use Rattle.formats.specs.Events.{event_number}
-use Rattle.wire.specs.declared.values.Version.{Version}
-use Rattle.wire.specs.declared.values.Version.TheVariants.{One, Two, Three, Four, Five}
-pub use Rattle.wire.specs.Entries.{IsId, IsEntry}
+use Rattle.wire.specs.declared.{standing.DeskStatus.DeskStatus, values.Version.Version}
+use Rattle.formats.specs.{declared.events.Event.Event, Events.event_number}
+use Rattle.wire.specs.declared.values.Version.TheVariants.{One, Four, Five}
 use Rattle.texts.specs.declared.answer.Answer.{Answer}
 use Rattle.wire.specs.Numbers.{IsFromThree, IsFromFive, answer_number, last_code, last_event}
-use Rattle.wire.specs.Numbers.{last_refusal, refusal_number}
-use Rattle.wire.specs.Spelling.{kind_of}
+use Rattle.wire.specs.{Numbers.last_refusal, Numbers.refusal_number, Spelling.kind_of}
+use Rattle.wire.specs.declared.frame.FrameBody.TheVariants as variant
+pub use Rattle.wire.specs.Entries.{IsId, IsEntry}
 
 -- a desk of a hall
 abbrev pub IsDesk : ℕ → Type 0
@@ -63,10 +51,7 @@ IsCommandState version (Done pos answer) = IsPosition pos × IsAnswerOf version 
 -- how many entries a Decided has in a version
 abbrev pub IsCount : Version → ℕ → Type 0
 IsCount One n = n ≡ 1
-IsCount Two n = (1 ≤ n) × (n ≤ 16)
-IsCount Three n = (1 ≤ n) × (n ≤ 16)
-IsCount Four n = (1 ≤ n) × (n ≤ 16)
-IsCount Five n = (1 ≤ n) × (n ≤ 16)
+IsCount _ n = (1 ≤ n) × (n ≤ 16)
 
 -- the entries from a position on, of which the last is at 65,535 at most
 abbrev pub AreDecided : Version → ℕ → List Entry → Type 0
@@ -102,11 +87,8 @@ IsDifference (Some (Shorter desk len)) = IsDesk desk × IsPosition len
 
 -- what a version tells of it: before version 5 nothing
 abbrev pub IsDiffering : Version → Option Difference → Type 0
-IsDiffering One d = d ≡ None
-IsDiffering Two d = d ≡ None
-IsDiffering Three d = d ≡ None
-IsDiffering Four d = d ≡ None
 IsDiffering Five d = IsDifference d
+IsDiffering _ d = d ≡ None
 
 -- how a desk is: its log, its queue of at most 255 commands, its ballots, the hall's logs, and how
 -- another desk differs
@@ -140,8 +122,6 @@ IsBody v (Submit e) = IsEntry e
 IsBody v (Ask id) = IsId id
 IsBody v (Sheet event round position style) =
     IsEventOf v event × (round < 256) × (position < 2 ^ 32)
-IsBody v Tick = Unit {0}
-IsBody v Stop = Unit {0}
 IsBody v Status = IsFromThree v
 IsBody v (Log position) = IsFromThree v × IsLogLength position
 IsBody v (Await id seconds) = IsFromFive v × IsId id × (seconds < 256)
@@ -149,9 +129,9 @@ IsBody v (Taken id) = IsId id
 IsBody v (Told id s) = IsId id × IsCommandState v s
 IsBody v (SheetText bytes) = length bytes ≤ 299992
 IsBody v (Refused refusal) = IsRefusalOf v refusal
-IsBody v Fine = Unit {0}
 IsBody v (variant.Standing standing) = IsFromThree v × IsStanding v standing
 IsBody v (variant.Entries position len entries) = IsFromThree v × AreOfLog position len entries
+IsBody v _ = Unit {0}
 
 -- who sends a kind to whom: desk to desk, client to desk, desk to client
 pub data Way : Type 0 where

@@ -1,41 +1,29 @@
 -- The frame that bytes spell, field by field from the left (as docs/FORMATS.md has it).
-use Rattle.std.specs.Prelude.{ℕ, zero, suc, ◌+◌, Bool, ◌&&◌, ◌||◌, List, [], ◌∷◌, length, take}
-use Rattle.std.specs.Prelude.{drop, Option, Some, None, Result, Ok, Err, not, nat_le, ◌==◌}
-use Rattle.std.specs.Prelude.{if◌then◌else◌}
-use Rattle.std.specs.List.{list_any}
-use Rattle.std.specs.Int.{w16, w32, w64, from_be_bytes}
-use Rattle.acceptor.specs.declared.ballot.Ballot.{Ballot}
-use Rattle.acceptor.specs.declared.entry.Entry.{Entry}
-use Rattle.acceptor.specs.declared.message.Report.{Report}
-use Rattle.formats.specs.declared.events.Event.{Event}
-use Rattle.formats.specs.Events.{all_events, event_number}
-use Rattle.wire.specs.declared.fault.WireFault.{WireFault}
+use Rattle.std.specs.Prelude.{ℕ, zero, drop, Option, Some, None, Result, Ok, Err, not, nat_le, ◌==◌}
+use Rattle.std.specs.Prelude.{suc, ◌+◌, Bool, ◌&&◌, ◌||◌, List, [], ◌∷◌, length, if◌then◌else◌}
+use Rattle.std.specs.{Prelude.take, List.list_any, Int.w16, Int.w32, Int.w64, Int.from_be_bytes}
+use Rattle.acceptor.specs.declared.{ballot.Ballot.Ballot, entry.Entry.Entry, message.Report.Report}
+use Rattle.formats.specs.{declared.events.Event.Event, Events.all_events, Events.event_number}
+use Rattle.wire.specs.declared.{fault.WireFault.WireFault, values.Version.Version}
 use Rattle.wire.specs.declared.fault.WireFault.TheVariants.{BadVersion, BadKind, BadBody}
-use Rattle.wire.specs.declared.frame.Frame.{Frame}
-use Rattle.wire.specs.declared.values.CommandState.{CommandState}
+use Rattle.wire.specs.declared.frame.{Frame.Frame, FrameBody.FrameBody}
+use Rattle.wire.specs.declared.values.{CommandState.CommandState, ClientRefusal.ClientRefusal}
 use Rattle.wire.specs.declared.values.CommandState.TheVariants.{Unknown, Pending, Done}
-use Rattle.wire.specs.declared.frame.FrameBody.{FrameBody}
-use Rattle.wire.specs.declared.frame.FrameBody.TheVariants as variant
-use Rattle.wire.specs.declared.frame.FrameBody.TheVariants.{Prepare, Promise, Accept, Accepted}
-use Rattle.wire.specs.declared.frame.FrameBody.TheVariants.{Nack}
-use Rattle.wire.specs.declared.frame.FrameBody.TheVariants.{Behind, Decided, Submit, Ask, Sheet}
-use Rattle.wire.specs.declared.frame.FrameBody.TheVariants.{Tick}
-use Rattle.wire.specs.declared.frame.FrameBody.TheVariants.{Stop, Taken, Told, SheetText, Refused}
-use Rattle.wire.specs.declared.frame.FrameBody.TheVariants.{Fine}
-use Rattle.wire.specs.declared.frame.FrameBody.TheVariants.{Status, Log, Await}
-use Rattle.wire.specs.declared.standing.Difference.{Difference}
+use Rattle.wire.specs.declared.frame.FrameBody.TheVariants.{Prepare, Promise, Accepted, SheetText}
+use Rattle.wire.specs.declared.frame.FrameBody.TheVariants.{Accept, Behind, Decided, Sheet, Refused}
+use Rattle.wire.specs.declared.frame.FrameBody.TheVariants.{Nack, Submit, Ask, Taken, Status, Await}
+use Rattle.wire.specs.declared.frame.FrameBody.TheVariants.{Tick, Stop, Told, Fine, Log}
+use Rattle.wire.specs.declared.standing.{Difference.Difference, Lengths.Lengths}
 use Rattle.wire.specs.declared.standing.Difference.TheVariants.{OtherEntry, Shorter}
-use Rattle.wire.specs.declared.values.ClientRefusal.{ClientRefusal}
-use Rattle.wire.specs.declared.standing.Lengths.{Lengths}
 use Rattle.wire.specs.declared.standing.Lengths.TheVariants.{OfThree, OfFive}
 use Rattle.wire.specs.Fields.{Read, ◌>>=◌, number_at, byte_at, two, many, all_of, numbered}
 use Rattle.wire.specs.Ranges.{Way, Between, FromClient, ToClient, way_of}
-use Rattle.wire.specs.declared.values.Version.{Version}
 use Rattle.wire.specs.declared.values.Version.TheVariants.{One, Two, Three, Four, Five}
 use Rattle.texts.specs.declared.answer.Answer.{Answer}
 use Rattle.wire.specs.Numbers.{versions, version_number, last_code, last_event, answers}
 use Rattle.wire.specs.Numbers.{answer_number, refusals, refusal_number, styles, style_number, roles}
 use Rattle.wire.specs.Numbers.{role_number, last_refusal}
+use Rattle.wire.specs.declared.frame.FrameBody.TheVariants as variant
 
 abbrev pub between : ℕ → ℕ → ℕ → Bool
 between low high n = nat_le low n && nat_le n high
@@ -208,21 +196,18 @@ prepare_of bytes = all_of (two ballot_at position_at) bytes >>= λ x. Some (Prep
 
 abbrev pub promise_of : List ℕ → Option FrameBody
 promise_of bytes =
-    all_of (two ballot_at (two position_at report_at)) bytes
-    >>= λ x. Some (Promise x.0 x.1.0 x.1.1)
+    all_of (two ballot_at (two position_at report_at)) bytes >>= λ x. Some (Promise x.0 x.1.0 x.1.1)
 
 abbrev pub accept_of : List ℕ → Option FrameBody
 accept_of bytes =
-    all_of (two ballot_at (two position_at entry_at)) bytes
-    >>= λ x. Some (Accept x.0 x.1.0 x.1.1)
+    all_of (two ballot_at (two position_at entry_at)) bytes >>= λ x. Some (Accept x.0 x.1.0 x.1.1)
 
 abbrev pub accepted_of : List ℕ → Option FrameBody
 accepted_of bytes = all_of (two ballot_at position_at) bytes >>= λ x. Some (Accepted x.0 x.1)
 
 abbrev pub nack_of : List ℕ → Option FrameBody
 nack_of bytes =
-    all_of (two ballot_at (two position_at ballot_at)) bytes
-    >>= λ x. Some (Nack x.0 x.1.0 x.1.1)
+    all_of (two ballot_at (two position_at ballot_at)) bytes >>= λ x. Some (Nack x.0 x.1.0 x.1.1)
 
 abbrev pub behind_of : List ℕ → Option FrameBody
 behind_of bytes = all_of (limited_at 65536) bytes >>= λ x. Some (Behind x)
@@ -243,8 +228,7 @@ ask_of bytes = all_of id_at bytes >>= λ x. Some (Ask x)
 abbrev pub sheet_of : Version → List ℕ → Option FrameBody
 sheet_of version bytes =
     all_of (two (event_at version)
-    (two byte_at (two (number_at w32) (member_at style_number styles))))
-    bytes
+    (two byte_at (two (number_at w32) (member_at style_number styles)))) bytes
     >>= λ x. Some (Sheet x.0 x.1.0 x.1.1.0 x.1.1.1)
 
 abbrev pub taken_of : List ℕ → Option FrameBody
@@ -264,10 +248,8 @@ await_of bytes = all_of (two id_at byte_at) bytes >>= λ x. Some (Await x.0 x.1)
 
 abbrev pub standing_of : Version → List ℕ → Option FrameBody
 standing_of version bytes =
-    all_of (two log_length_at
-    (two byte_at (two (member_at role_number roles)
-    (two promised_at (two lengths_at (differs_at version))))))
-    bytes
+    all_of (two log_length_at (two byte_at (two (member_at role_number roles)
+    (two promised_at (two lengths_at (differs_at version)))))) bytes
     >>= λ x. Some (variant.Standing (record {
       length = x.0;
       waiting = x.1.0;

@@ -1,33 +1,23 @@
 -- The bytes of a frame: one spelling for each (as docs/FORMATS.md has it). Numbers are unsigned,
 -- the highest byte first.
 use Rattle.std.specs.Prelude.{ℕ, List, [], ◌∷◌, ◌++◌, length, Option, Some, None}
-use Rattle.std.specs.List.{flat_map}
-use Rattle.std.specs.Int.{w16, w32, w64, to_be_bytes}
-use Rattle.acceptor.specs.declared.ballot.Ballot.{Ballot}
-use Rattle.acceptor.specs.declared.entry.Entry.{Entry}
-use Rattle.acceptor.specs.declared.message.Report.{Report}
+use Rattle.std.specs.{List.flat_map, Int.w16, Int.w32, Int.w64, Int.to_be_bytes}
+use Rattle.acceptor.specs.declared.{ballot.Ballot.Ballot, entry.Entry.Entry, message.Report.Report}
 use Rattle.formats.specs.Events.{event_number}
-use Rattle.wire.specs.declared.frame.Frame.{Frame}
-use Rattle.wire.specs.declared.values.CommandState.{CommandState}
+use Rattle.wire.specs.declared.frame.{Frame.Frame, FrameBody.FrameBody}
+use Rattle.wire.specs.declared.values.{CommandState.CommandState, Version.Version}
 use Rattle.wire.specs.declared.values.CommandState.TheVariants.{Unknown, Pending, Done}
-use Rattle.wire.specs.declared.frame.FrameBody.{FrameBody}
-use Rattle.wire.specs.declared.frame.FrameBody.TheVariants as variant
-use Rattle.wire.specs.declared.frame.FrameBody.TheVariants.{Prepare, Promise, Accept, Accepted}
-use Rattle.wire.specs.declared.frame.FrameBody.TheVariants.{Nack}
-use Rattle.wire.specs.declared.frame.FrameBody.TheVariants.{Behind, Decided, Submit, Ask, Sheet}
-use Rattle.wire.specs.declared.frame.FrameBody.TheVariants.{Tick}
-use Rattle.wire.specs.declared.frame.FrameBody.TheVariants.{Stop, Taken, Told, SheetText, Refused}
-use Rattle.wire.specs.declared.frame.FrameBody.TheVariants.{Fine}
-use Rattle.wire.specs.declared.frame.FrameBody.TheVariants.{Status, Log, Await}
-use Rattle.wire.specs.declared.standing.Difference.{Difference}
+use Rattle.wire.specs.declared.frame.FrameBody.TheVariants.{Prepare, Promise, Accepted, SheetText}
+use Rattle.wire.specs.declared.frame.FrameBody.TheVariants.{Accept, Behind, Decided, Sheet, Refused}
+use Rattle.wire.specs.declared.frame.FrameBody.TheVariants.{Nack, Submit, Ask, Taken, Status, Await}
+use Rattle.wire.specs.declared.frame.FrameBody.TheVariants.{Tick, Stop, Told, Fine, Log}
+use Rattle.wire.specs.declared.standing.{Difference.Difference, Lengths.Lengths}
 use Rattle.wire.specs.declared.standing.Difference.TheVariants.{OtherEntry, Shorter}
-use Rattle.wire.specs.declared.standing.Lengths.{Lengths}
 use Rattle.wire.specs.declared.standing.Lengths.TheVariants.{OfThree, OfFive}
-use Rattle.wire.specs.declared.standing.DeskStatus.{DeskStatus}
-use Rattle.wire.specs.declared.values.Version.{Version}
-use Rattle.wire.specs.declared.values.Version.TheVariants.{One, Two, Three, Four, Five}
+use Rattle.wire.specs.{declared.standing.DeskStatus.DeskStatus, Numbers.version_number}
+use Rattle.wire.specs.declared.values.Version.TheVariants.{One, Five}
 use Rattle.wire.specs.Numbers.{answer_number, refusal_number, role_number, style_number}
-use Rattle.wire.specs.Numbers.{version_number}
+use Rattle.wire.specs.declared.frame.FrameBody.TheVariants as variant
 
 abbrev pub ballot_bytes : Ballot → List ℕ
 ballot_bytes b = to_be_bytes w32 b.number ++ b.desk ∷ []
@@ -76,10 +66,7 @@ kind_of (variant.Entries position len entries) = 38
 -- how many entries a Decided has, which version 1 does not say
 abbrev pub count_bytes : Version → ℕ → List ℕ
 count_bytes One n = []
-count_bytes Two n = n ∷ []
-count_bytes Three n = n ∷ []
-count_bytes Four n = n ∷ []
-count_bytes Five n = n ∷ []
+count_bytes _ n = n ∷ []
 
 abbrev pub decided_bytes : Version → ℕ → List Entry → List ℕ
 decided_bytes version pos entries =
@@ -109,11 +96,8 @@ difference_bytes (Some (Shorter desk len)) = 2 ∷ desk ∷ to_be_bytes w32 len
 
 -- which the versions before 5 do not say
 abbrev pub differs_bytes : Version → Option Difference → List ℕ
-differs_bytes One d = []
-differs_bytes Two d = []
-differs_bytes Three d = []
-differs_bytes Four d = []
 differs_bytes Five d = difference_bytes d
+differs_bytes _ d = []
 
 abbrev pub standing_bytes : Version → DeskStatus → List ℕ
 standing_bytes version s =
@@ -139,18 +123,15 @@ body v (Submit e) = entry_bytes e
 body v (Ask id) = to_be_bytes w64 id
 body v (Sheet event round position style) =
     event_number event ∷ round ∷ to_be_bytes w32 position ++ style_number style ∷ []
-body v Tick = []
-body v Stop = []
-body v Status = []
 body v (Log position) = to_be_bytes w32 position
 body v (Await id seconds) = to_be_bytes w64 id ++ seconds ∷ []
 body v (Taken id) = to_be_bytes w64 id
 body v (Told id s) = to_be_bytes w64 id ++ state_bytes s
 body v (SheetText bytes) = bytes
 body v (Refused refusal) = refusal_number refusal ∷ []
-body v Fine = []
 body v (variant.Standing standing) = standing_bytes v standing
 body v (variant.Entries position len entries) = log_bytes position len entries
+body v _ = []
 
 -- what is after the length: version, hall, sender, receiver, kind, fields
 abbrev pub inside : Frame → List ℕ

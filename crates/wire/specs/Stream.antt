@@ -1,16 +1,11 @@
 -- What is at the front of a stream, and what a reader of it keeps (as docs/FORMATS.md has it).
 use Rattle.std.specs.Prelude.{◌≡◌, ◌⊎◌, ◌≤◌, ℕ, List, [], ◌++◌, length, take, drop, Option, Some}
 use Rattle.std.specs.Prelude.{None, IsSome, Result, Ok, Err, not, nat_lt, if◌then◌else◌}
-use Rattle.std.specs.Global.{Vec}
-use Rattle.std.specs.List.{flat_map, AllByRecursion}
-use Rattle.std.specs.Int.{w32, from_be_bytes}
-use Rattle.wire.specs.declared.fault.WireFault.{WireFault}
+use Rattle.std.specs.{Global.Vec, List.flat_map, List.AllByRecursion, Int.w32, Int.from_be_bytes}
+use Rattle.wire.specs.declared.fault.WireFault.{WireFault, TheVariants.NoMemory}
 use Rattle.wire.specs.declared.fault.WireFault.TheVariants.{BadLength, BadVersion, BadKind, BadBody}
-use Rattle.wire.specs.declared.fault.WireFault.TheVariants.{NoMemory}
-use Rattle.wire.specs.declared.frame.Frame.{Frame}
-use Rattle.wire.specs.Ranges.{IsFrame}
+use Rattle.wire.specs.{declared.frame.Frame.Frame, Ranges.IsFrame, Spelling.spelling}
 use Rattle.wire.specs.Reading.{between, frame_of}
-use Rattle.wire.specs.Spelling.{spelling}
 
 -- no whole frame and no fault yet; a frame and the bytes after it; or a fault
 pub data Front : Type 0 where
@@ -88,11 +83,8 @@ pub record Fed (piece : List ℕ) (old new : Reader) (frames : List Frame) : Typ
 
 -- a fault of the stream, which want of memory is not
 abbrev pub IsOfStream : WireFault → Type 0
-IsOfStream BadLength = Unit {0}
-IsOfStream BadVersion = Unit {0}
-IsOfStream BadKind = Unit {0}
-IsOfStream BadBody = Unit {0}
 IsOfStream NoMemory = ⊥
+IsOfStream _ = Unit {0}
 
 -- a fault that is kept is one of the stream
 abbrev pub IsKept : Option WireFault → Type 0

@@ -11,8 +11,7 @@ ghost use Rattle.wire.specs.Reading.{ballot_at, limited_at, position_at, id_at, 
 ghost use Rattle.wire.specs.Reading.{report_at, member_at, event_at, answer_at, state_at};
 ghost use Rattle.wire.specs.Reading.{log_length_at, promised_at, lengths_at, desk_at, refusal_at};
 ghost use Rattle.wire.specs.Reading.{difference_at, differs_at};
-ghost use Rattle.wire.specs.declared.fault.WireFault.TheVariants.{NoMemory};
-ghost use Rattle.wire.specs.model.Gives.{GivesField};
+ghost use Rattle.wire.specs.{declared.fault.WireFault.TheVariants.NoMemory, model.Gives.GivesField};
 ghost use Rattle.wire.specs.model.Parts.{part_entry, part_report, IsPart};
 
 use crate::fault::WireFault;

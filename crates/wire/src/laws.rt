@@ -1,8 +1,7 @@
 //! Laws of the spellings of frames, for every frame and all bytes.
 
 ghost use Rattle.std.specs.Prelude.{ℕ, List};
-ghost use Rattle.wire.specs.declared.fault.WireFault.{WireFault};
-ghost use Rattle.wire.specs.declared.frame.Frame.{Frame};
+ghost use Rattle.wire.specs.declared.{fault.WireFault.WireFault, frame.Frame.Frame};
 ghost use Rattle.wire.specs.Laws.{AreBytes, IsReadWhereSpelled, BeginsNoOther, IsFaultWhereFirst};
 ghost use Rattle.wire.specs.Ranges.{IsFrame};
 

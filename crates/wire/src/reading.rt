@@ -1,9 +1,8 @@
 //! One frame, from the bytes after its length.
 
 ghost use Rattle.std.specs.Prelude.{◌≡◌, IfOk, IfErr};
-ghost use Rattle.wire.specs.declared.fault.WireFault.TheVariants.{NoMemory};
+ghost use Rattle.wire.specs.{declared.fault.WireFault.TheVariants.NoMemory, Ranges.way_of_kind};
 ghost use Rattle.wire.specs.declared.frame.FrameBody.TheVariants.{SheetText};
-ghost use Rattle.wire.specs.Ranges.{way_of_kind};
 ghost use Rattle.wire.specs.Reading.{prepare_of, promise_of, accept_of, accepted_of, nack_of};
 ghost use Rattle.wire.specs.Reading.{behind_of, submit_of, ask_of, sheet_of, taken_of, told_of};
 ghost use Rattle.wire.specs.Reading.{refused_of, log_of, await_of, standing_of, empty_of, what_of};

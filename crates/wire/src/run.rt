@@ -1,8 +1,7 @@
 //! Entries one after the other, from bytes.
 
 ghost use Rattle.std.specs.Prelude.{option_map};
-ghost use Rattle.wire.specs.Reading.{entries_at};
-ghost use Rattle.wire.specs.model.Gives.{GivesField, PushesEntries};
+ghost use Rattle.wire.specs.{Reading.entries_at, model.Gives.GivesField, model.Gives.PushesEntries};
 
 use crate::entries::Entries;
 use crate::fault::WireFault;

@@ -2,8 +2,7 @@
 
 ghost use Rattle.std.specs.Prelude.{◌≡◌, ◌⊎◌, ◌↔◌, IfSome, IsSome, length};
 ghost use Rattle.std.specs.List.{AllByRecursion};
-ghost use Rattle.wire.specs.Ranges.{IsLogLength, AreLengths};
-ghost use Rattle.wire.specs.Spelling.{lengths_of};
+ghost use Rattle.wire.specs.{Ranges.IsLogLength, Ranges.AreLengths, Spelling.lengths_of};
 
 use crate::values::{DeskRole, Version};
 use acceptor::ballot::Ballot;

@@ -2,9 +2,8 @@
 //! it.
 
 ghost use Rattle.std.specs.Prelude.{◌≡◌, ◌≤◌, IfOk, OnErr, length, vec_capacity, Option};
-ghost use Rattle.wire.specs.Stream.{Waits, front, IsBegun};
+ghost use Rattle.wire.specs.{Stream.Waits, Stream.front, Stream.IsBegun, model.Steps.StandsInFront};
 ghost use Rattle.wire.specs.model.Steps.{GivesLength, GivesFront, IsTaken, IsToppedUp, Finishes};
-ghost use Rattle.wire.specs.model.Steps.{StandsInFront};
 
 use crate::NoMemory;
 use crate::fault::WireFault;

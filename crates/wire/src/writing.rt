@@ -1,14 +1,11 @@
 //! Frames as bytes.
 
 ghost use Rattle.std.specs.Prelude.{◌≡◌, ◌≤◌, ◌<◌, ◌∷◌, ◌++◌, IfOk, OnOk, length};
-ghost use Rattle.std.specs.Int.{w16, w32, w64, to_be_bytes};
-ghost use Rattle.wire.specs.Ranges.{IsFrame, IsBody};
-ghost use Rattle.std.specs.List.{flat_map};
-ghost use Rattle.wire.specs.Spelling.{ballot_bytes, text_bytes, entry_bytes, count_bytes};
+ghost use Rattle.std.specs.{Int.w16, Int.w32, Int.w64, Int.to_be_bytes, List.flat_map};
+ghost use Rattle.wire.specs.{Ranges.IsFrame, Ranges.IsBody, Spelling.inside, Spelling.spelling};
+ghost use Rattle.wire.specs.Spelling.{ballot_bytes, text_bytes, entry_bytes, count_bytes, body};
 ghost use Rattle.wire.specs.Spelling.{promised_bytes, lengths_bytes, standing_bytes, log_bytes};
-ghost use Rattle.wire.specs.Spelling.{difference_bytes, differs_bytes};
-ghost use Rattle.wire.specs.Spelling.{report_bytes, state_bytes, body, inside};
-ghost use Rattle.wire.specs.Spelling.{spelling};
+ghost use Rattle.wire.specs.Spelling.{difference_bytes, differs_bytes, report_bytes, state_bytes};
 
 use crate::NoMemory;
 use crate::frame::{Frame, FrameBody};

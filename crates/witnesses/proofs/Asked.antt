@@ -1,31 +1,25 @@
 -- What the calls of a mirror that is kept up lead to, and those of a survey.
 use Rattle.std.proofs.Common.{◌≡◌, inl, inr, refl, sym, ◌∙◌, ℕ, false, List, [], ◌∷◌, ◌++◌, length}
-use Rattle.std.proofs.Common.{None, Some, arith}
-use Rattle.std.proofs.lemmas.List.{append-nil}
+use Rattle.std.proofs.{Common.None, Common.Some, Common.arith, lemmas.List.append-nil}
 use Rattle.acceptor.specs.declared.entry.Entry.{Entry}
 use Rattle.client.specs.Standings.{log_request, status_request_in_five}
-use Rattle.desk_talks.specs.Dialogues.{CallsLead}
+use Rattle.desk_talks.specs.{Dialogues.CallsLead, declared.exchange.AnswerOutcome.AnswerOutcome}
 use Rattle.desk_talks.specs.KeptConnections.{KeptConnectionOf, line}
 use Rattle.desk_talks.specs.Exchanges.{HearsFrames, ExchangeOf, asking, heard_of, sending, talk}
-use Rattle.desk_talks.specs.declared.kept_connection.ConnectionStage.TheVariants as line_stage
-use Rattle.desk_talks.specs.declared.exchange.AnswerOutcome.{AnswerOutcome}
-use Rattle.desk_talks.specs.declared.exchange.AnswerOutcome.TheVariants as heard
-use Rattle.log_follower.specs.Following.{Following}
-use Rattle.log_follower.specs.declared.stages.FollowStage.{FollowStage}
-use Rattle.log_follower.specs.declared.stages.FollowStage.TheVariants as stage
 use Rattle.mirror.specs.declared.mirror.MirrorGrowth.TheVariants.{Grew}
 use Rattle.kept_mirror.specs.Histories.{CallLeads}
 use Rattle.kept_mirror.specs.Mirrorings.{MirroringOf, mirroring, new_mirroring}
 use Rattle.desk_survey.specs.Surveys.{DialogueLeads, SurveyOf, new_survey, survey}
+use Rattle.wire.specs.Ranges.{AreOfLog, IsDesk, IsEntry, IsFrame}
+use Rattle.wire.specs.{Spelling.spelling, Stream.Fed, Stream.front, Stream.holding}
+use Rattle.wire.specs.declared.{frame.Frame.Frame, values.Version.TheVariants.Three}
+use Rattle.witnesses.specs.Dialogues.{WorksDialogues, first, log_answer, mirror_after, mirror_calls}
+use Rattle.witnesses.specs.Dialogues.{quiet, stands, status_answer, survey_after, survey_calls}
+use Rattle.desk_talks.specs.declared.kept_connection.ConnectionStage.TheVariants as line_stage
+use Rattle.desk_talks.specs.declared.exchange.AnswerOutcome.TheVariants as heard
+use Rattle.log_follower.specs.declared.stages.AnswerWorth.TheVariants as worth
 use Rattle.desk_survey.specs.declared.survey.Reachability.TheVariants as contact
-use Rattle.wire.specs.Ranges.{IsFrame}
-use Rattle.wire.specs.Spelling.{spelling}
-use Rattle.wire.specs.Stream.{Fed, front, holding}
-use Rattle.wire.specs.declared.frame.Frame.{Frame}
 use Rattle.wire.specs.declared.frame.FrameBody.TheVariants as what
-use Rattle.witnesses.specs.Dialogues.{WorksDialogues, first, log_answer, mirror_after}
-use Rattle.witnesses.specs.Dialogues.{mirror_calls, quiet, stands, status_answer, survey_after}
-use Rattle.witnesses.specs.Dialogues.{survey_calls}
 
 -- the bytes of one frame come at once
 one_comes : (f : Frame) → IsFrame f → Fed (spelling f) (holding []) (holding []) (f ∷ [])
@@ -44,7 +38,7 @@ one_comes f good = record {
 }
 
 -- and it is heard where this question waits
-hears : (told : AnswerOutcome) (asked f : Frame) (unsent : List ℕ) → IsFrame f
+pub hears : (told : AnswerOutcome) (asked f : Frame) (unsent : List ℕ) → IsFrame f
     → told ≡ heard_of (Some asked) (f ∷ [])
     → HearsFrames told (spelling f) (talk (holding []) (Some asked) unsent)
     (talk (holding []) None unsent)
@@ -56,21 +50,33 @@ hears told asked f unsent good is = record {
   unsent_is = refl;
 }
 
-log_frame : IsFrame log_answer
-log_frame = record {
-  hall = omega arith;
-  goes = ((omega arith, omega arith), refl);
-  body = (
-    omega arith,
-    record {
-      from = omega arith;
-      log = omega arith;
-      most = omega arith;
-      within = inr (omega arith);
-      each = (((omega arith, omega arith), omega arith), tt);
-    },
-  );
+-- a desk of three answers entries of a log from its beginning on
+pub entries_frame : (desk len : ℕ) (entries : List Entry) → IsDesk desk → AreOfLog 0 len entries
+    → IsFrame (record {
+      version = Three;
+      hall = 7;
+      from = desk;
+      to = 0;
+      what = what.Entries 0 len entries;
+    })
+entries_frame desk len entries is log =
+    record { hall = omega arith; goes = (is, refl); body = (omega arith, log) }
+
+pub one_of_log : (e : Entry) → IsEntry e → AreOfLog 0 1 (e ∷ [])
+one_of_log e is = record {
+  from = omega arith;
+  log = omega arith;
+  most = omega arith;
+  within = inr (omega arith);
+  each = (is, tt);
 }
+
+first_is : IsEntry first
+first_is = ((omega arith, omega arith), omega arith)
+
+pub log_frame : IsFrame log_answer
+log_frame =
+    entries_frame 1 1 (first ∷ []) (omega arith, omega arith) (one_of_log first first_is)
 
 status_frame : IsFrame status_answer
 status_frame = record {
@@ -90,14 +96,10 @@ status_frame = record {
 
 -- ---- the mirror
 
-abbrev at : FollowStage → Following
-at stage = record { desks = 3; desk = 1; stage = stage; held = 0; most = 0; behind = None }
-
-abbrev mirror_at : FollowStage → ExchangeOf → MirroringOf
-mirror_at stage t = mirroring 7 (at stage) [] (Some t) None
-
-abbrev opening : MirroringOf
-opening = mirroring 7 (at (stage.Opening 0)) [] None None
+abbrev mirror_at : KeptConnectionOf → MirroringOf
+mirror_at l =
+    mirroring 7 (record { desks = 3; desk = 1; worth = worth.Open; most = 0; behind = None }) l []
+    None
 
 abbrev asked : ExchangeOf
 asked = asking quiet (log_request 7 1 0)
@@ -107,23 +109,23 @@ written = sending asked (length (spelling (log_request 7 1 0)))
 
 mirrors : CallsLead CallLeads (new_mirroring 7 3) mirror_calls mirror_after
 mirrors = (
-  opening,
+  mirror_at (line (line_stage.Opening 0) None 0),
   (refl, refl),
   (
-    mirror_at (stage.Opened 0) quiet,
-    refl,
+    mirror_at (line (line_stage.Opened 0) (Some quiet) 0),
+    (line (line_stage.Opened 0) (Some quiet) 0, refl, refl),
     (
-      mirror_at (stage.Asked 5) asked,
-      (quiet, refl, refl),
+      mirror_at (line (line_stage.Asked 5) (Some asked) 1),
+      (line (line_stage.Asked 5) (Some asked) 1, (quiet, refl, refl), refl),
       (
-        mirror_at (stage.Asked 5) written,
+        mirror_at (line (line_stage.Asked 5) (Some written) 1),
         refl,
         (
           mirror_after,
           record {
             heard = heard.Answer (what.Entries 0 1 (first ∷ []));
-            after = quiet;
-            hears = inl (hears _ (log_request 7 1 0) log_answer [] log_frame refl);
+            line = line (line_stage.Answered (Some 5)) (Some quiet) 1;
+            hears = (quiet, inl (hears _ (log_request 7 1 0) log_answer [] log_frame refl), refl);
             follows =
                 record {
                   taken = Some Grew;
@@ -156,26 +158,26 @@ asked_so = sending question (length (spelling (status_request_in_five 7 1)))
 
 surveys : CallsLead DialogueLeads (new_survey 7 1) survey_calls survey_after
 surveys = (
-  survey_at (line 250 (line_stage.Opening 0) None 0),
+  survey_at (line (line_stage.Opening 0) None 0),
   (refl, refl),
   (
-    survey_at (line 250 (line_stage.Opened 0) (Some quiet) 0),
-    (line 250 (line_stage.Opened 0) (Some quiet) 0, refl, refl),
+    survey_at (line (line_stage.Opened 0) (Some quiet) 0),
+    (line (line_stage.Opened 0) (Some quiet) 0, refl, refl),
     (
-      survey_at (line 250 (line_stage.Asked 5) (Some question) 1),
+      survey_at (line (line_stage.Asked 5) (Some question) 1),
       (
-        line 250 (line_stage.Asked 5) (Some question) 1,
+        line (line_stage.Asked 5) (Some question) 1,
         (quiet, refl, refl),
         refl,
       ),
       (
-        survey_at (line 250 (line_stage.Asked 5) (Some asked_so) 1),
+        survey_at (line (line_stage.Asked 5) (Some asked_so) 1),
         refl,
         (
           survey_after,
           record {
             heard = heard.Answer (what.Standing stands);
-            after = line 250 (line_stage.Answered (Some 5)) (Some quiet) 1;
+            after = line (line_stage.Answered (Some 5)) (Some quiet) 1;
             hears = (
               quiet,
               inl (hears _ (status_request_in_five 7 1) status_answer [] status_frame refl),

@@ -1,16 +1,12 @@
 -- A record with a changed body, and one of the other direction.
-use Rattle.std.proofs.Common.{◌≡◌, refl, sym, ap, subst, ◌∙◌, ℕ, ◌<◌, ◌^◌, List, [], ◌∷◌, ◌++◌}
-use Rattle.std.proofs.Common.{length, take, get_or, arith}
-use Rattle.std.specs.Int.{w16, from_be_bytes, to_be_bytes}
-use Rattle.std.specs.Prelude.{slice_index}
-use Rattle.std.proofs.lemmas.List.{append-nil, take_at}
+use Rattle.std.proofs.Common.{◌≡◌, refl, sym, ap, ◌∙◌, ℕ, ◌<◌, ◌^◌, List, [], ◌∷◌, ◌++◌, length}
+use Rattle.std.proofs.{Common.arith, lemmas.Nat.from_be_bytes-to_be_bytes_2}
+use Rattle.std.specs.{Int.w16, Int.from_be_bytes, Int.to_be_bytes, Prelude.slice_index}
 use Rattle.sha2.specs.Sha256.{sha256, first_words, schedule, rounds, compress, hash_after}
 use Rattle.sha2.specs.Sha256.{digest_bytes}
-use Rattle.seal.specs.Hmac.{hmac, key_block}
-use Rattle.seal.specs.Laws.{Differs, IsChanged, IsNotForged, changed}
-use Rattle.seal.specs.Records.{IsBody, record_of, records, tag}
+use Rattle.seal.specs.{Hmac.hmac, Hmac.key_block, Laws.Differs, Laws.IsChanged, Laws.IsNotForged}
+use Rattle.seal.specs.Records.{record_of, records, tag}
 use Rattle.seal.proofs.Whole.{length-record, length-tag, parted, short}
-use Rattle.std.proofs.lemmas.Nat.{from_be_bytes-to_be_bytes_2}
 use Rattle.witnesses.specs.Streams.{WorksStreams, back, came, channel, front, sent}
 
 first_byte : List ℕ → ℕ

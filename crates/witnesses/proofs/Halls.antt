@@ -1,9 +1,6 @@
 -- What is read of a hall's file.
-use Rattle.std.proofs.Common.{◌≡◌, ◌≢◌, refl, ℕ, List, [], ◌∷◌, ◌++◌, None, Some, arith}
-use Rattle.std.specs.Float.Numeral.{scan_numeral}
-use Rattle.std.specs.Fmt.{digits}
-use Rattle.std.specs.List.{IsDistinct}
-use Rattle.std.specs.Str.{chars}
+use Rattle.std.proofs.Common.{◌≡◌, refl, [], ◌∷◌, Some, arith}
+use Rattle.std.specs.{Float.Numeral.scan_numeral, Fmt.digits, List.IsDistinct, Str.chars}
 use Rattle.std.specs.Prelude.{bytes_eq, codes, pos}
 use Rattle.toml.specs.Data.{Members, integer, member, no_members, string}
 use Rattle.toml.specs.Parse.{after_element, atom, expression, header_key, items, key_equals}
@@ -14,8 +11,7 @@ use Rattle.toml_parser.specs.Numbers.{decimal_number, number, plain_number, pref
 use Rattle.toml_parser.specs.Numbers.{underscore_fits, unquoted, word_len, word_value}
 use Rattle.toml_parser.specs.Strings.{body, escape, escape_char, hex_escape, key_after, one_line}
 use Rattle.toml_parser.specs.Strings.{quoted, simple_key, special}
-use Rattle.hall_file.specs.Files.{IsKnown, SaysHall}
-use Rattle.hall_file.specs.Members.{SaysDesks, list_of}
+use Rattle.hall_file.specs.{Files.IsKnown, Members.SaysDesks, Members.list_of}
 use Rattle.witnesses.specs.HallFiles.{WorksHallFile, addresses, bare_file, file, open_file}
 
 abbrev desks : Rattle.toml.specs.Data.Data

@@ -1,7 +1,7 @@
 pub mod LinkCalls
+pub mod Asked
 pub mod Followed
 pub mod Told
-pub mod Asked
 pub mod ChangedRecords
 pub mod Halls
 pub mod OneResult

@@ -1,12 +1,9 @@
 -- What the calls of a link lead to.
-use Rattle.std.proofs.Common.{ℕ, refl, List, [], ◌∷◌, None, Some, arith}
-use Rattle.links.specs.Histories.{Leads}
+use Rattle.std.proofs.Common.{refl, [], ◌∷◌, arith}
+use Rattle.links.specs.{Histories.Leads, Links.new_link, Links.with_waiting, Tellings.LeadsTo}
 use Rattle.links.specs.Links.{LinkState, after_began, after_failed, after_opened, after_sent}
-use Rattle.links.specs.Links.{new_link, with_waiting}
 use Rattle.links.specs.Outages.{Telling, after_due, failing, new_telling}
-use Rattle.links.specs.Tellings.{LeadsTo}
-use Rattle.witnesses.specs.LinkCalls.{WorksLink, calls, link_after, one, sending, tale, three}
-use Rattle.witnesses.specs.LinkCalls.{told_after, two}
+use Rattle.witnesses.specs.LinkCalls.{WorksLink, one, sending, tale, told_after, two}
 
 abbrev pushed_one : LinkState
 pushed_one = with_waiting new_link (one ∷ [])

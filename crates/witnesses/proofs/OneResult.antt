@@ -1,53 +1,30 @@
 -- A competition's file with one result.
-use Rattle.std.proofs.Common.{◌≡◌, refl, sym, ap, subst, ◌∙◌, ℕ, List, [], ◌∷◌, ◌++◌, Some, arith}
-use Rattle.std.specs.Fmt.{digits}
-use Rattle.std.specs.Prelude.{codes}
-use Rattle.std.specs.Str.{IsUtf8}
-use Rattle.json.specs.Json.{Json, Items, Members, array, document, item, items, member, members}
-use Rattle.json.specs.Json.{no_items, no_members, null, number, object, string, value}
-use Rattle.json.specs.Lex.{lex, punctuate}
-use Rattle.json.specs.Print.{escape_byte, print, print_from}
-use Rattle.json.specs.Text.{code_unit, content, short_escape}
-use Rattle.json.specs.Tree.{json_tokens}
-use Rattle.json.specs.Word.{after_number, word}
-use Rattle.json.proofs.Printed.Utf8.{IsUtf8-are_ascii}
+use Rattle.std.proofs.Common.{◌≡◌, refl, sym, ap, subst, ◌∙◌, ℕ, List, [], ◌++◌, Some, arith}
+use Rattle.std.specs.{Fmt.digits, Prelude.codes, Str.IsUtf8}
+use Rattle.json.specs.Json.{Json, Items, array, document, item, items, member, members, no_items}
+use Rattle.json.specs.Json.{no_members, null, number, object, string, value}
+use Rattle.json.specs.{Lex.lex, Lex.punctuate, Tree.json_tokens, Word.after_number, Word.word}
+use Rattle.json.{specs.Print.escape_byte, specs.Print.print, proofs.Printed.Utf8.IsUtf8-are_ascii}
+use Rattle.json.specs.{Print.print_from, Text.code_unit, Text.content, Text.short_escape}
 use Rattle.commands.specs.Accepted.{round_in}
 use Rattle.wcif.specs.Files.{without_mark}
 use Rattle.wcif_results.specs.Faults.{faults, faults_of, file_rounds, is_accepted}
 use Rattle.wcif_results.specs.Filled.{filled, filled_event, filled_file, filled_round}
-use Rattle.wcif_results.specs.MeetRounds.{meet_rounds}
-use Rattle.wcif_results.specs.Names.{was_given}
+use Rattle.wcif_results.specs.{MeetRounds.meet_rounds, Names.was_given}
 use Rattle.wcif_results.specs.Results.{result_json, results_json}
 use Rattle.witnesses.specs.Exported.{WorksExport, back, commands, front, result}
 
 -- the file whose round has these results
 abbrev with_results : Items → Json
 with_results results =
-    object
-    (member (codes "persons")
-    (array
-    (item
-    (object
+    object (member (codes "persons") (array (item (object
     (member (codes "registrantId") (number (codes "1"))
-    (member (codes "name") (string (codes "Ann Li"))
-    (member (codes "registration")
-    (object (member (codes "status") (string (codes "accepted")) no_members))
-    no_members))))
-    no_items))
-    (member (codes "events")
-    (array
-    (item
-    (object
-    (member (codes "id") (string (codes "333"))
-    (member (codes "rounds")
-    (array
-    (item
-    (object
+    (member (codes "name") (string (codes "Ann Li")) (member (codes "registration")
+    (object (member (codes "status") (string (codes "accepted")) no_members)) no_members))))
+    no_items)) (member (codes "events") (array (item (object
+    (member (codes "id") (string (codes "333")) (member (codes "rounds") (array (item (object
     (member (codes "id") (string (codes "333-r1"))
-    (member (codes "results") (array results) no_members)))
-    no_items))
-    no_members)))
-    no_items))
+    (member (codes "results") (array results) no_members))) no_items)) no_members))) no_items))
     no_members))
 
 abbrev before : Json
@@ -55,21 +32,12 @@ before = with_results no_items
 
 abbrev after : Json
 after =
-    with_results
-    (item
-    (object
-    (member (codes "personId") (number (codes "1"))
-    (member (codes "ranking") (number (codes "1"))
-    (member (codes "attempts")
-    (array
-    (item
-    (object
+    with_results (item (object (member (codes "personId") (number (codes "1"))
+    (member (codes "ranking") (number (codes "1")) (member (codes "attempts") (array (item (object
     (member (codes "result") (number (codes "900"))
-    (member (codes "reconstruction") null no_members)))
-    no_items))
+    (member (codes "reconstruction") null no_members))) no_items))
     (member (codes "best") (number (codes "900"))
-    (member (codes "average") (number (codes "0")) no_members))))))
-    no_items)
+    (member (codes "average") (number (codes "0")) no_members)))))) no_items)
 
 is_plain : without_mark (front ++ back) ≡ front ++ back
 unfolding without_mark

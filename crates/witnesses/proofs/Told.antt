@@ -1,11 +1,10 @@
 -- What a mirror makes of entries of two logs.
-use Rattle.std.proofs.Common.{◌≡◌, ◌⊎◌, inl, inr, refl, sym, subst, ap, ℕ, zero, suc, List, []}
-use Rattle.std.proofs.Common.{◌∷◌, ◌++◌, Some, slice_get, arith, take, drop}
+use Rattle.std.proofs.Common.{◌≡◌, ◌⊎◌, inl, inr, refl, sym, subst, ℕ, zero, suc, List, [], Some}
+use Rattle.std.proofs.Common.{slice_get, arith, take, drop}
 use Rattle.std.proofs.lemmas.List.{append-nil}
 use Rattle.acceptor.specs.declared.entry.Entry.{Entry}
 use Rattle.learner.specs.Laws.{IsPrefix}
-use Rattle.mirror.specs.Fronts.{LogsOfAgree, TakesAll, Telling, told_by}
-use Rattle.mirror.specs.Mirrors.{AreHeldBelow}
+use Rattle.mirror.specs.{Fronts.LogsOfAgree, Fronts.TakesAll, Fronts.Telling, Mirrors.AreHeldBelow}
 use Rattle.witnesses.specs.Told.{WorksMirror, first_told, fourth_told, long_log, second_told}
 use Rattle.witnesses.specs.Told.{short_log, tellings, third_told}
 
@@ -52,8 +51,7 @@ second_held : AreHeldBelow 1 (take 1 short_log) 0 long_log
 second_held zero mine its below holds tells = cc
 second_held (suc place) mine its below holds tells = absurd (omega (arith, below))
 
-third_held : AreHeldBelow 3 long_log 1
-    (take 1 (drop 1 short_log))
+third_held : AreHeldBelow 3 long_log 1 (take 1 (drop 1 short_log))
 third_held zero mine its below holds tells = cc
 third_held (suc place) mine its below holds tells = absurd cc
 

@@ -1,28 +1,24 @@
 -- What is said over a connection by a mirror that is kept up, and by a survey of a desk (the
 -- project's own).
-use Rattle.std.specs.Prelude.{ℕ, true, false, List, [], ◌∷◌, codes, length, None, Some}
+use Rattle.std.specs.Prelude.{true, false, List, [], ◌∷◌, codes, length, None, Some}
 use Rattle.acceptor.specs.declared.entry.Entry.{Entry}
 use Rattle.client.specs.Standings.{log_request, status_request_in_five}
 use Rattle.desk_talks.specs.Dialogues.{Act, CallsLead, Hear, Opened, Sent}
-use Rattle.desk_talks.specs.Dialogues as Dialogues
-use Rattle.desk_talks.specs.KeptConnections.{line}
-use Rattle.desk_talks.specs.Exchanges.{ExchangeOf, talk}
-use Rattle.desk_talks.specs.declared.dialogue.ReceiveOutcome.TheVariants as came
-use Rattle.desk_talks.specs.declared.dialogue.DialogueAction.TheVariants as wish
-use Rattle.desk_talks.specs.declared.kept_connection.ConnectionStage.TheVariants as line_stage
-use Rattle.log_follower.specs.declared.stages.FollowStage.TheVariants as stage
+use Rattle.desk_talks.specs.{KeptConnections.line, Exchanges.ExchangeOf, Exchanges.talk}
 use Rattle.kept_mirror.specs.Histories.{Call, CallLeads, InDialogue}
 use Rattle.kept_mirror.specs.Mirrorings.{MirroringOf, mirroring, new_mirroring}
 use Rattle.desk_survey.specs.Surveys.{DialogueLeads, SurveyOf, new_survey, survey}
-use Rattle.desk_survey.specs.declared.survey.Reachability.TheVariants as contact
-use Rattle.wire.specs.Spelling.{spelling}
-use Rattle.wire.specs.Stream.{holding}
-use Rattle.wire.specs.declared.frame.Frame.{Frame}
-use Rattle.wire.specs.declared.frame.FrameBody.TheVariants as what
-use Rattle.wire.specs.declared.standing.Lengths.TheVariants.{OfThree}
-use Rattle.wire.specs.declared.standing.DeskStatus.{DeskStatus}
-use Rattle.wire.specs.declared.values.DeskRole.TheVariants.{Idle}
+use Rattle.wire.specs.{Spelling.spelling, Stream.holding}
+use Rattle.wire.specs.declared.{frame.Frame.Frame, values.DeskRole.TheVariants.Idle}
+use Rattle.wire.specs.declared.standing.{Lengths.TheVariants.OfThree, DeskStatus.DeskStatus}
 use Rattle.wire.specs.declared.values.Version.TheVariants.{Three, Five}
+use Rattle.desk_talks.specs.Dialogues as Dialogues
+use Rattle.desk_talks.specs.declared.dialogue.ReceiveOutcome.TheVariants as came
+use Rattle.desk_talks.specs.declared.dialogue.DialogueAction.TheVariants as wish
+use Rattle.desk_talks.specs.declared.kept_connection.ConnectionStage.TheVariants as line_stage
+use Rattle.log_follower.specs.declared.stages.AnswerWorth.TheVariants as worth
+use Rattle.desk_survey.specs.declared.survey.Reachability.TheVariants as contact
+use Rattle.wire.specs.declared.frame.FrameBody.TheVariants as what
 
 -- a talk in which all was said
 abbrev pub quiet : ExchangeOf
@@ -45,16 +41,8 @@ mirror_calls =
 
 abbrev pub mirror_after : MirroringOf
 mirror_after =
-    mirroring 7
-    (record {
-      desks = 3;
-      desk = 1;
-      stage = stage.Answered (Some 5);
-      held = 1;
-      most = 1;
-      behind = None;
-    })
-    (first ∷ []) (Some quiet) None
+    mirroring 7 (record { desks = 3; desk = 1; worth = worth.Useful; most = 1; behind = None })
+    (line (line_stage.Answered (Some 5)) (Some quiet) 1) (first ∷ []) None
 
 abbrev pub stands : DeskStatus
 stands = record {
@@ -79,7 +67,7 @@ survey_calls =
 
 abbrev pub survey_after : SurveyOf
 survey_after =
-    survey 7 1 (line 250 (line_stage.Answered (Some 5)) (Some quiet) 1)
+    survey 7 1 (line (line_stage.Answered (Some 5)) (Some quiet) 1)
     (Some (record { standing = stands; at = 10 })) contact.Answers false
 
 pub record WorksDialogues : Type 0 where

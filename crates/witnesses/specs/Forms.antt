@@ -1,8 +1,7 @@
 -- A field and a file, with a boundary (the project's own).
 use Rattle.std.specs.Prelude.{◌≡◌, ◌≤◌, ℕ, true, List, [], ◌∷◌, ◌++◌, codes, length, None, Some}
 use Rattle.std.specs.List.{AllByRecursion}
-use Rattle.form_data.specs.Cutting.{crlf}
-use Rattle.form_data.specs.Headers.{is_boundary}
+use Rattle.form_data.specs.{Cutting.crlf, Headers.is_boundary}
 use Rattle.form_data.specs.Written.{CanWrite, Written, written}
 
 abbrev pub boundary : List ℕ
@@ -11,8 +10,7 @@ boundary = codes "--B7"
 -- the content of the file has dashes, and two lines
 abbrev pub parts : List Written
 parts =
-    record { name = codes "token"; file = None; content = codes "9f" }
-    ∷ record {
+    record { name = codes "token"; file = None; content = codes "9f" } ∷ record {
       name = codes "lines";
       file = Some (record { name = codes "a b.txt"; kind = codes "text/plain" });
       content = codes "--B8" ++ (crlf ++ codes "--");

@@ -1,5 +1,5 @@
 -- A hall's file, by hand: what its lines say, and two that are refused.
-use Rattle.std.specs.Prelude.{◌≡◌, ℕ, List, [], ◌∷◌, ◌++◌, codes, None, Some}
+use Rattle.std.specs.Prelude.{ℕ, List, [], ◌∷◌, ◌++◌, codes, None, Some}
 use Rattle.hall_file.specs.Files.{Refuses, SaysHall}
 use Rattle.hall_file.specs.declared.fault.HallFault.TheVariants.{Missing}
 use Rattle.hall_file.specs.declared.fault.Member.TheVariants as name

@@ -2,14 +2,12 @@
 use Rattle.std.specs.Prelude.{◌≡◌, ℕ, true, List, [], ◌∷◌, None, Some}
 use Rattle.links.specs.Histories.{Began, Failed, History, Leads, Opened, Push, Sent, Start, Then}
 use Rattle.links.specs.Histories.{connections, failures, pushed, written}
-use Rattle.links.specs.Links.{LinkState, has_some}
-use Rattle.links.specs.Outages.{Telling}
+use Rattle.links.specs.{Links.LinkState, Links.has_some, Outages.Telling}
 use Rattle.links.specs.Tellings.{Goes, LeadsTo, Line, Silent, Tale, lines_of}
+use Rattle.links.specs.declared.stages.{PushOutcome.TheVariants.Waits, LinkStage.TheVariants.Paused}
 use Rattle.links.specs.Tellings as Tellings
 use Rattle.links.specs.declared.notices.Notice.TheVariants as notice
 use Rattle.links.specs.declared.notices.Outage.TheVariants as outage
-use Rattle.links.specs.declared.stages.PushOutcome.TheVariants.{Waits}
-use Rattle.links.specs.declared.stages.LinkStage.TheVariants.{Paused}
 
 abbrev pub one : List ℕ
 one = 1 ∷ 2 ∷ 3 ∷ []
@@ -59,5 +57,4 @@ pub record WorksLink : Type 0 where
   pub went : written 1 calls ≡ 1 ∷ 2 ∷ 3 ∷ 4 ∷ []
   pub failed : failures calls ≡ 1
   pub tells : LeadsTo tale told_after
-  pub lines : lines_of tale
-      ≡ line 3000 (notice.Reached 3) ∷ line 0 notice.Unreachable ∷ []
+  pub lines : lines_of tale ≡ line 3000 (notice.Reached 3) ∷ line 0 notice.Unreachable ∷ []

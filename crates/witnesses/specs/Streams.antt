@@ -1,9 +1,8 @@
 -- A record of a sealed stream that was changed on its way, and one that was sent the other way (the
 -- project's own).
-use Rattle.std.specs.Prelude.{◌≡◌, ℕ, List, [], ◌∷◌, ◌++◌, length, replicate}
-use Rattle.seal.specs.Laws.{Differs, IsChanged, IsNotForged, changed}
-use Rattle.seal.specs.Records.{AreBodies, records, tag}
-use Rattle.seal.specs.declared.channel.Channel.{Channel}
+use Rattle.std.specs.Prelude.{◌≡◌, ℕ, List, [], ◌∷◌, ◌++◌, replicate}
+use Rattle.seal.specs.{Laws.Differs, Laws.IsChanged, Laws.IsNotForged, Laws.changed, Records.tag}
+use Rattle.seal.specs.{Records.AreBodies, Records.records, declared.channel.Channel.Channel}
 use Rattle.seal.specs.declared.channel.Direction.TheVariants.{ToClient, ToServer}
 
 abbrev pub channel : Channel

@@ -1,5 +1,5 @@
 -- Entries that are given to a mirror (the project's own).
-use Rattle.std.specs.Prelude.{◌≡◌, ℕ, List, [], ◌∷◌, codes, Some}
+use Rattle.std.specs.Prelude.{ℕ, List, [], ◌∷◌, codes, Some}
 use Rattle.acceptor.specs.declared.entry.Entry.{Entry}
 use Rattle.mirror.specs.Fronts.{LogsOfAgree, TakesAll, Telling}
 use Rattle.mirror.specs.declared.mirror.MirrorGrowth.TheVariants.{Gap, Grew, Known}
@@ -10,8 +10,7 @@ entry id text = record { id = id; text = text }
 -- three commands, and the first two of them
 abbrev pub long_log : List Entry
 long_log =
-    entry 11 (codes "REG 1 Ann") ∷ entry 12 (codes "REG 2 Ben") ∷ entry 13 (codes "REG 3 Cas")
-    ∷ []
+    entry 11 (codes "REG 1 Ann") ∷ entry 12 (codes "REG 2 Ben") ∷ entry 13 (codes "REG 3 Cas") ∷ []
 
 abbrev pub short_log : List Entry
 short_log = entry 11 (codes "REG 1 Ann") ∷ entry 12 (codes "REG 2 Ben") ∷ []

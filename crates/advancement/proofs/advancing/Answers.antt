@@ -1,10 +1,8 @@
 use Rattle.std.proofs.Common.{◌≤◌, map, length, nat_eq, ap, sym, subst, ◌∙◌}
-use Rattle.std.specs.List.{IsDistinct, list_any}
-use Rattle.std.specs.List.Sorted.{IsPermutation}
+use Rattle.std.specs.List.{IsDistinct, list_any, Sorted.IsPermutation}
 use Rattle.rounds.specs.Tables.{number_of_entrant, standings}
-use Rattle.advancement.specs.Advancing.{goes_on}
+use Rattle.advancement.{specs.Advancing.goes_on, proofs.Whom.kept_is, proofs.Whom.is_advancing}
 use Rattle.advancement.proofs.EachOnce.{distinct_filter, few_filter, holds_at}
-use Rattle.advancement.proofs.Whom.{kept_is, is_advancing}
 use Rattle.advancement.proofs.advancing.Goals as goal
 
 pub returns-clause-order : goal.returns-clause-order
@@ -21,14 +19,12 @@ returns-clause-whom c = holds_at c.those_before.result c.those_before.ensures
     (c.deref.ensures.value ∙ c.in_ok-order.ensures.order))
     ∙ is_advancing c.args.table.now c.args.advance
     (subst (IsPermutation (map number_of_entrant c.args.table.now.entrants))
-    c.in_ok-order.ensures.order c.in_ok-order.ensures.all)
-    number)
+    c.in_ok-order.ensures.order c.in_ok-order.ensures.all) number)
 
 pub returns-clause-each_once : goal.returns-clause-each_once
 returns-clause-each_once c = holds_at c.those_before.result c.those_before.ensures
     (λ kept is.
-    subst (IsDistinct nat_eq)
-    (sym
+    subst (IsDistinct nat_eq) (sym
     (kept_is c.args.table.now c.args.advance c.border-limit.result _ _ is c.border-limit.ensures
     (c.deref.ensures.value ∙ c.in_ok-order.ensures.order)))
     (distinct_filter (goes_on c.args.table.now c.args.advance) (standings c.args.table.now)
@@ -37,8 +33,7 @@ returns-clause-each_once c = holds_at c.those_before.result c.those_before.ensur
 pub returns-clause-few : goal.returns-clause-few
 returns-clause-few c = holds_at c.those_before.result c.those_before.ensures
     (λ kept is.
-    subst (λ ns. length ns ≤ 999)
-    (sym
+    subst (λ ns. length ns ≤ 999) (sym
     (kept_is c.args.table.now c.args.advance c.border-limit.result _ _ is c.border-limit.ensures
     (c.deref.ensures.value ∙ c.in_ok-order.ensures.order)))
     (few_filter (goes_on c.args.table.now c.args.advance) (standings c.args.table.now)

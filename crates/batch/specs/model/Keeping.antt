@@ -1,13 +1,11 @@
 -- How requests are made in a call, as contracts see it.
 use Rattle.std.specs.Prelude.{◌≡◌, ◌∷◌, [], ℕ, List, Option, true, Result}
 use Rattle.client.specs.declared.fault.ClientFault.{ClientFault}
-use Rattle.wire.specs.declared.frame.Frame.{Frame}
-use Rattle.wire.specs.declared.frame.FrameBody.{FrameBody}
+use Rattle.wire.specs.declared.frame.{Frame.Frame, FrameBody.FrameBody}
 use Rattle.batch.specs.Dialing.{Asked, AsksBy, Came, Dialed, Dials, IsAnew, IsOverKept, Place}
 use Rattle.batch.specs.Dialing.{Standing, Way, ended_so, exchanged, heard_as, is_hung_up, place_of}
 use Rattle.batch.specs.Watching.{Notice, Telling, Watched, watched}
-use Rattle.batch.specs.declared.dialing.Contact.{Contact}
-use Rattle.batch.specs.declared.dialing.ConnectionLoss.{ConnectionLoss}
+use Rattle.batch.specs.declared.dialing.{Contact.Contact, ConnectionLoss.ConnectionLoss}
 
 -- a request was made, and this was made of the first frame that came
 pub record Hears (request : Frame) (ended : Result FrameBody ClientFault)

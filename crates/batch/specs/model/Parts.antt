@@ -2,11 +2,9 @@
 use Rattle.std.specs.Prelude.{◌≡◌, ◌++◌, ◌∷◌, [], ℕ, ◌≤◌, List, length, Result, Ok}
 use Rattle.acceptor.specs.declared.entry.Entry.{Entry}
 use Rattle.wire.specs.declared.frame.FrameBody.{FrameBody}
-use Rattle.batch.specs.Asking.{IsAnswer}
+use Rattle.batch.specs.{Asking.IsAnswer, Logs.IsNoPart, Logs.IsPart, Logs.log_of}
 use Rattle.batch.specs.Dialing.{GoesBy, Way, asked_so}
-use Rattle.batch.specs.Logs.{IsNoPart, IsPart, log_of}
-use Rattle.batch.specs.declared.asking.Receiver.{Receiver}
-use Rattle.batch.specs.declared.fault.BatchFault.{BatchFault}
+use Rattle.batch.specs.declared.{asking.Receiver.Receiver, fault.BatchFault.BatchFault}
 
 -- the request for what is behind these entries was made, and answered by a part that comes behind
 -- them

@@ -3,9 +3,8 @@ use Rattle.std.specs.Prelude.{◌≡◌, ◌+◌, ℕ, Bool, List, length}
 use Rattle.std.specs.List.{AllByRecursion}
 use Rattle.wire.specs.declared.frame.FrameBody.{FrameBody}
 use Rattle.batch.specs.Asking.{Asked, IsAnswer, IsPending, IsTicked, IsUnknown, ask_of, ticks_in}
-use Rattle.batch.specs.declared.fault.BatchFault.{BatchFault}
+use Rattle.batch.specs.declared.{fault.BatchFault.BatchFault, asking.Receiver.Receiver}
 use Rattle.batch.specs.declared.fault.BatchFault.TheVariants as fault
-use Rattle.batch.specs.declared.asking.Receiver.{Receiver}
 
 -- the ticks after a try, counted from 0: one or none
 abbrev pub AreTicks : Receiver → Bool → ℕ → List Asked → Type 0

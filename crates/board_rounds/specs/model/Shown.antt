@@ -1,14 +1,11 @@
 -- A model of the code: what is printed of the round that is shown.
 use Rattle.std.specs.Prelude.{◌≡◌, ℕ, Bool, List, Some}
 use Rattle.formats.specs.Events.{unit_of}
-use Rattle.board_rounds.specs.declared.shown.BoardRound.{BoardRound}
-use Rattle.board_rounds.specs.Rows.{line_of, listed}
+use Rattle.board_rounds.specs.{declared.shown.BoardRound.BoardRound, Persons.entry_in}
+use Rattle.board_rounds.specs.{Rows.line_of, Rows.listed, Rounds.section_of, Rounds.link_of}
 use Rattle.commands.specs.Accepted.{round_of, seen_of}
-use Rattle.sheets.specs.declared.going_on.AdvancingEntrants.{AdvancingEntrants}
-use Rattle.sheets.specs.Going.{Tells}
+use Rattle.sheets.specs.{declared.going_on.AdvancingEntrants.AdvancingEntrants, Going.Tells}
 use Rattle.sheets.specs.Sheet.{goes_through}
-use Rattle.board_rounds.specs.Rounds.{section_of, link_of}
-use Rattle.board_rounds.specs.Persons.{entry_in}
 
 -- it is a round that was opened, with its settings and its table
 abbrev pub IsOpened : BoardRound → Type 0

@@ -1,21 +1,16 @@
 -- A model of the code: what a card is asked one attempt after the other, and how it is refused.
-use Rattle.std.specs.Prelude.{◌≡◌, ◌<◌, ◌≤◌, ℕ, Bool, true, false, List, length, slice_index_or}
-use Rattle.std.specs.Prelude.{All, IfSome, Option, None, Some}
-use Rattle.std.specs.Option.{option_or}
+use Rattle.std.specs.Prelude.{◌≡◌, ◌<◌, ◌≤◌, ℕ, Bool, true, false, All, IfSome, Option, None, Some}
+use Rattle.std.specs.{Prelude.List, Prelude.length, Prelude.slice_index_or, Option.option_or}
 use Rattle.cube.specs.declared.moves.Move.{Move}
 use Rattle.attempts.specs.declared.Value.{Value}
 use Rattle.formats.specs.Events.{last_round}
 use Rattle.rounds.specs.Tables.{Table, entrant, changed}
-use Rattle.texts.specs.declared.answer.Code.{Code}
+use Rattle.texts.specs.{declared.answer.Code.Code, Spelling.IsEntered}
+use Rattle.texts.specs.declared.command.{CardEntry.CardEntry, Command.Command, RoundId.RoundId}
+use Rattle.texts.specs.declared.command.{Entered.Entered, Settings.Settings}
+use Rattle.commands.specs.Accepted.{scramble_of, lacks_scramble, unfit_card_refusal, seen_refusal}
+use Rattle.commands.specs.Accepted.{values_now, counts_in}
 use Rattle.texts.specs.declared.answer.Code.TheVariants as code
-use Rattle.texts.specs.declared.command.CardEntry.{CardEntry}
-use Rattle.texts.specs.declared.command.Command.{Command}
-use Rattle.texts.specs.declared.command.RoundId.{RoundId}
-use Rattle.texts.specs.declared.command.Entered.{Entered}
-use Rattle.texts.specs.declared.command.Settings.{Settings}
-use Rattle.texts.specs.Spelling.{IsEntered}
-use Rattle.commands.specs.Accepted.{scramble_of, lacks_scramble, unfit_card_refusal}
-use Rattle.commands.specs.Accepted.{seen_refusal, values_now, counts_in}
 
 -- what a card that is read keeps to: its round is one that there may be, it has at most five
 -- attempts, what is entered is in its ranges, and what it keeps is there

@@ -1,38 +1,28 @@
 -- A model of the code: what is kept beside the accepted commands, and how a command changes it.
 use Rattle.std.specs.Prelude.{is_some, IfSome, true, false, not, nat_le, ◌-◌, ◌<◌, ◌≤◌, length}
-use Rattle.std.specs.Prelude.{slice_get, zero, suc, drop, count_by, All}
-use Rattle.std.specs.Prelude.{slice_index_or, slice_set, [], ◌++◌, map, if◌then◌else◌, ◌≡◌, ℕ, Bool}
-use Rattle.std.specs.Prelude.{◌==◌, ◌&&◌, List, find, bytes_eq, nat_eq, Option, None, Some}
-use Rattle.std.specs.List.{list_any, IsDistinct}
+use Rattle.std.specs.Prelude.{slice_get, zero, suc, drop, count_by, All, slice_index_or, slice_set}
+use Rattle.std.specs.Prelude.{[], ◌++◌, map, if◌then◌else◌, ◌≡◌, ℕ, Bool, ◌==◌, ◌&&◌, List, find}
+use Rattle.std.specs.Prelude.{bytes_eq, nat_eq, Option, None, Some}
+use Rattle.std.specs.{List.list_any, List.IsDistinct, HashMap.get, HashMap.get_by}
 use Rattle.std.specs.Option.{option_or, option_map, option_map_or, option_and_then}
-use Rattle.std.specs.HashMap.{get, get_by}
 use Rattle.cube.specs.declared.moves.Move.{Move}
-use Rattle.formats.specs.declared.events.Event.{Event}
-use Rattle.formats.specs.Events.{same_event, unit_of}
-use Rattle.texts.specs.declared.command.Command.{Command}
+use Rattle.formats.specs.declared.events.{Event.Event, Format.Format}
+use Rattle.formats.specs.{Events.same_event, Events.unit_of, declared.advance.Advance.Advance}
+use Rattle.texts.specs.declared.command.{Command.Command, AttemptEntry.AttemptEntry}
 use Rattle.texts.specs.declared.answer.Code.{Code}
-use Rattle.texts.specs.declared.answer.Code.TheVariants as code
-use Rattle.texts.specs.declared.command.Command.TheVariants.{Enter, Attempt, Correct}
-use Rattle.texts.specs.declared.command.Command.TheVariants.{Strike, Rename, Withdraw}
-use Rattle.texts.specs.declared.command.Command.TheVariants.{Card, Fix}
-use Rattle.texts.specs.declared.command.AttemptEntry.{AttemptEntry}
-use Rattle.texts.specs.declared.command.Entered.{Entered}
-use Rattle.texts.specs.declared.command.Settings.{Settings}
-use Rattle.texts.specs.declared.command.RoundId.{RoundId}
-use Rattle.commands.specs.declared.kept_rounds.KeptRound.{KeptRound}
-use Rattle.commands.specs.declared.kept_rounds.KeptRounds.{KeptRounds}
-use Rattle.commands.specs.declared.competitors.Competitors.{Competitors}
-use Rattle.commands.specs.declared.index.Index.{Index}
+use Rattle.texts.specs.declared.command.Command.TheVariants.{Enter, Attempt, Correct, Strike}
+use Rattle.texts.specs.declared.command.Command.TheVariants.{Rename, Withdraw, Card, Fix}
+use Rattle.texts.specs.declared.command.{Entered.Entered, Settings.Settings, RoundId.RoundId}
+use Rattle.commands.specs.declared.kept_rounds.{KeptRound.KeptRound, KeptRounds.KeptRounds}
+use Rattle.commands.specs.declared.{competitors.Competitors.Competitors, index.Index.Index}
 use Rattle.rounds.specs.Tables.{Entrant, Table, empty_table, with_value, corrected, struck, closed}
 use Rattle.rounds.specs.Tables.{with_entrant, is_entered, with_rules, withdrawn, reopened}
-use Rattle.formats.specs.declared.advance.Advance.{Advance}
-use Rattle.formats.specs.declared.events.Format.{Format}
-use Rattle.commands.specs.Accepted.{name_given, renaming, name_of, is_called, is_taken}
-use Rattle.commands.specs.Accepted.{is_of, scrambling, rescrambling, scramble_of, settled}
-use Rattle.commands.specs.Accepted.{is_withdrawal, Opened, opened, round_in, round_of, edition_in}
-use Rattle.commands.specs.Accepted.{is_registered, who_advance, who_wait, is_solution, is_solved}
-use Rattle.commands.specs.Accepted.{competitors_of}
+use Rattle.commands.specs.Accepted.{name_given, renaming, name_of, is_called, is_taken, is_of}
+use Rattle.commands.specs.Accepted.{scrambling, rescrambling, scramble_of, settled, is_withdrawal}
+use Rattle.commands.specs.Accepted.{Opened, opened, round_in, round_of, edition_in, is_registered}
+use Rattle.commands.specs.Accepted.{who_advance, who_wait, is_solution, is_solved, competitors_of}
 use Rattle.commands.specs.model.Solved.{is_noted}
+use Rattle.texts.specs.declared.answer.Code.TheVariants as code
 
 -- the name that a command gives a number, by its registration or as another name
 abbrev pub naming : ℕ → Command → Option (List ℕ)
@@ -247,8 +237,7 @@ abbrev pub with_advance : Advance → Settings × Table → Settings × Table
 with_advance advance round = (record round.0 { advance = advance }, round.1)
 
 -- a round in which nobody has an attempt, with another format, cutoff and limit
-abbrev pub with_settings : Format → Option (ℕ × ℕ) → Option ℕ → Settings × Table
-    → Settings × Table
+abbrev pub with_settings : Format → Option (ℕ × ℕ) → Option ℕ → Settings × Table → Settings × Table
 with_settings format cutoff limit round = (
   record round.0 { format = format; cutoff = cutoff; limit = limit },
   with_rules round.1 format cutoff,
@@ -286,8 +275,7 @@ HasUnit e round = IfSome round (λ x. x.1.unit ≡ unit_of e)
 -- seen of a round before
 pub record ChangesRound (e : Event) (r : ℕ) (change : Settings × Table → Settings × Table)
     (old new : List KeptRound) : Type 0 where
-  pub rounds : (f : Event) (s : ℕ)
-      → kept_round f s new
+  pub rounds : (f : Event) (s : ℕ) → kept_round f s new
       ≡ (if same_event f e && s == r then option_map change (kept_round f s old)
       else kept_round f s old)
   pub scrambles : (f : Event) (s k : ℕ) → kept_scramble f s k new ≡ kept_scramble f s k old
@@ -305,15 +293,13 @@ IsAsBefore old new =
 pub record EntersRound (e : Event) (r k n : ℕ) (x : Entered)
     (change : Settings × Table → Settings × Table) (old new : List KeptRound) : Type 0 where
   pub there : is_some (kept_round e r old) ≡ true
-  pub rounds : (f : Event) (s : ℕ)
-      → kept_round f s new
+  pub rounds : (f : Event) (s : ℕ) → kept_round f s new
       ≡ (if same_event f e && s == r then option_map change (kept_round f s old)
       else kept_round f s old)
   pub scrambles : (f : Event) (s j : ℕ) → kept_scramble f s j new ≡ kept_scramble f s j old
   pub waiting : (f : Event) (s : ℕ) → kept_waiting f s new ≡ kept_waiting f s old
   pub seen : (f : Event) (s : ℕ) → kept_seen f s new ≡ kept_seen f s old
-  pub solved : (f : Event) (s j m : ℕ) → 1 ≤ j
-      → kept_solved f s j m new
+  pub solved : (f : Event) (s j m : ℕ) → 1 ≤ j → kept_solved f s j m new
       ≡ (if same_event f e && s == r && (m == n && j == k) then is_solution x
       else kept_solved f s j m old)
 
@@ -332,15 +318,12 @@ Changes id change old new =
 -- who withdraws leaves one round, and no other; the first of those who wait for a place in it, if
 -- anybody does, takes that one and waits no more
 pub record ExchangesRound (e : Event) (r : ℕ) (n : ℕ) (old new : List KeptRound) : Type 0 where
-  pub rounds : (f : Event) (s : ℕ)
-      → kept_round f s new
-      ≡ (if same_event f e && s == r
+  pub rounds : (f : Event) (s : ℕ) → kept_round f s new ≡ (if same_event f e && s == r
       then option_map (with_exit n (option_and_then first_of_all (kept_waiting e r old)))
       (kept_round f s old)
       else kept_round f s old)
   pub scrambles : (f : Event) (s k : ℕ) → kept_scramble f s k new ≡ kept_scramble f s k old
-  pub waiting : (f : Event) (s : ℕ)
-      → kept_waiting f s new
+  pub waiting : (f : Event) (s : ℕ) → kept_waiting f s new
       ≡ (if same_event f e && s == r then option_map (drop 1) (kept_waiting f s old)
       else kept_waiting f s old)
   pub seen : (f : Event) (s : ℕ) → kept_seen f s new ≡ kept_seen f s old
@@ -357,15 +340,12 @@ before_in id kept = kept_round id.event (id.round - 1) kept.opened.items
 -- and with what is seen of the one before
 pub record AddsRound (e : Event) (r : ℕ) (round : Settings × Table) (waits : List ℕ)
     (sees : List ℕ × ℕ) (old new : List KeptRound) : Type 0 where
-  pub rounds : (f : Event) (s : ℕ)
-      → kept_round f s new
+  pub rounds : (f : Event) (s : ℕ) → kept_round f s new
       ≡ option_or (kept_round f s old) (if same_event f e && s == r then Some round else None)
   pub scrambles : (f : Event) (s k : ℕ) → kept_scramble f s k new ≡ kept_scramble f s k old
-  pub waiting : (f : Event) (s : ℕ)
-      → kept_waiting f s new
+  pub waiting : (f : Event) (s : ℕ) → kept_waiting f s new
       ≡ option_or (kept_waiting f s old) (if same_event f e && s == r then Some waits else None)
-  pub seen : (f : Event) (s : ℕ)
-      → kept_seen f s new
+  pub seen : (f : Event) (s : ℕ) → kept_seen f s new
       ≡ option_or (kept_seen f s old) (if same_event f e && s == r then Some sees else None)
   pub solved : (f : Event) (s k m : ℕ) → kept_solved f s k m new ≡ kept_solved f s k m old
 
@@ -373,24 +353,21 @@ pub record AddsRound (e : Event) (r : ℕ) (round : Settings × Table) (waits : 
 pub record Opens (id : RoundId) (settings : Settings) (old new : KeptRounds) : Type 0 where
   pub adds : AddsRound id.event id.round
       (settings, table_opened id.event settings (who_advance (before_in id old)))
-      (who_wait (before_in id old)) (seen_from (before_in id old)) old.opened.items
-      new.opened.items
+      (who_wait (before_in id old)) (seen_from (before_in id old)) old.opened.items new.opened.items
   pub once : IsDistinct nat_eq (who_wait (before_in id old))
   pub others : AreOthers (who_advance (before_in id old)) (who_wait (before_in id old))
 
 -- the round of an id is not kept any more, and each other one is kept as it was
 abbrev pub Cancels : RoundId → KeptRounds → KeptRounds → Type 0
 Cancels id old new =
-    (f : Event) (s : ℕ)
-    → find (is_round f s) new.opened.items
+    (f : Event) (s : ℕ) → find (is_round f s) new.opened.items
     ≡ (if is_of f s id then None else find (is_round f s) old.opened.items)
 
 -- the scramble of one attempt of a round is at this place, and all else is as it was
 pub record AddsScramble (e : Event) (r k : ℕ) (place : ℕ) (old new : List KeptRound) : Type 0 where
   pub there : is_some (kept_round e r old) ≡ true
   pub rounds : (f : Event) (s : ℕ) → kept_round f s new ≡ kept_round f s old
-  pub scrambles : (f : Event) (s j : ℕ) → 1 ≤ j
-      → kept_scramble f s j new
+  pub scrambles : (f : Event) (s j : ℕ) → 1 ≤ j → kept_scramble f s j new
       ≡ (if same_event f e && s == r && j == k then Some place else kept_scramble f s j old)
   pub waiting : (f : Event) (s : ℕ) → kept_waiting f s new ≡ kept_waiting f s old
   pub seen : (f : Event) (s : ℕ) → kept_seen f s new ≡ kept_seen f s old

@@ -2,15 +2,12 @@
 -- is asked, and what it then makes of the rounds that are kept.
 use Rattle.std.specs.Prelude.{◌≡◌, ℕ, List, Option, None, Some}
 use Rattle.cube.specs.declared.moves.Move.{Move}
-use Rattle.attempts.specs.declared.Value.{Value}
-use Rattle.attempts.specs.Attempts.{IsInRangeOf}
+use Rattle.attempts.specs.{declared.Value.Value, Attempts.IsInRangeOf}
 use Rattle.rounds.specs.Tables.{Table}
 use Rattle.texts.specs.declared.answer.Code.{Code}
-use Rattle.texts.specs.declared.command.AttemptEntry.{AttemptEntry}
-use Rattle.texts.specs.declared.command.Settings.{Settings}
-use Rattle.commands.specs.declared.kept_rounds.KeptRounds.{KeptRounds}
+use Rattle.texts.specs.declared.command.{AttemptEntry.AttemptEntry, Settings.Settings}
+use Rattle.commands.specs.{declared.kept_rounds.KeptRounds.KeptRounds, Accepted.correct_refusal}
 use Rattle.commands.specs.Accepted.{settled, unfit_refusal, entered_refusal, put_refusal}
-use Rattle.commands.specs.Accepted.{correct_refusal}
 use Rattle.commands.specs.model.Kept.{kept_by, IsKeptAt, Enters, with_attempt, with_correction}
 
 -- the round of an entry is at this place, what was entered fits it, and this is its value there
@@ -27,8 +24,7 @@ pub record IsSettled (entry : AttemptEntry) (scramble : Option (List Move)) (kep
 abbrev pub IsUnfit : AttemptEntry → Option (List Move) → KeptRounds → Code → Type 0
 IsUnfit entry scramble kept why =
     (asked : Settings × Table → Option Code)
-    → entered_refusal entry.id.event entry.outcome scramble asked (kept_by entry.id kept)
-    ≡ Some why
+    → entered_refusal entry.id.event entry.outcome scramble asked (kept_by entry.id kept) ≡ Some why
 
 -- the first check of an attempt that fails
 abbrev pub attempt_refusal : AttemptEntry → Option (List Move) → KeptRounds → Option Code

@@ -1,7 +1,6 @@
 -- A model of the code: how it is noted for which attempts a solution was entered.
 use Rattle.std.specs.Prelude.{◌≡◌, ℕ, ◌-◌, Bool, true, false, List, slice_index_or, is_some, Option}
-use Rattle.std.specs.Prelude.{None, Some, nat_eq}
-use Rattle.std.specs.HashMap.{get}
+use Rattle.std.specs.{Prelude.None, Prelude.Some, Prelude.nat_eq, HashMap.get}
 use Rattle.commands.specs.declared.solutions.Solutions.{Solutions}
 
 -- the flag of an attempt in the row of a number, where it has one

@@ -1,11 +1,8 @@
 -- Moves put in front of what is read.
 use Rattle.std.proofs.Common.{◌≡◌, ◌<◌, List, [], ◌∷◌, ◌++◌, length, refl, sym, ap, ◌∙◌}
 use Rattle.std.proofs.Common.{append_assoc, arith, Result, Ok, Err}
-use Rattle.cube.specs.notation.Tokens.{token}
-use Rattle.cube.specs.notation.Notation.{spelling}
-use Rattle.cube.specs.declared.moves.Move.{Move}
-use Rattle.cube.specs.declared.notation.reading.NotationFault.{NotationFault}
-use Rattle.cube.specs.notation.model.Scan.{with_move}
+use Rattle.cube.specs.notation.{Tokens.token, Notation.spelling, model.Scan.with_move}
+use Rattle.cube.specs.declared.{moves.Move.Move, notation.reading.NotationFault.NotationFault}
 
 abbrev pub with_moves : List Move → Result (List Move) NotationFault
     → Result (List Move) NotationFault

@@ -4,21 +4,17 @@ use Rattle.std.proofs.Common.{◌++◌, length, take, drop, replicate, refl, sym
 use Rattle.std.proofs.Common.{Option, Some, None, Result, Ok, Err, append_assoc, length-append}
 use Rattle.std.proofs.Math.Seq.{take-append_seam, drop-append_seam, take-length}
 use Rattle.std.proofs.lemmas.List.{append-nil, length_push, length-replicate, take-append-drop}
-use Rattle.cube.specs.declared.moves.Move.{Move}
-use Rattle.cube.specs.declared.notation.reading.NotationFault.{NotationFault}
+use Rattle.cube.{specs.declared.moves.Move.Move, proofs.notation.Joined.with_moves_fault}
+use Rattle.cube.specs.declared.notation.reading.NotationFault.{NotationFault, TheVariants.NoMemory}
 use Rattle.cube.specs.declared.notation.reading.NotationFault.TheVariants.{Empty, BadToken, TooMany}
-use Rattle.cube.specs.declared.notation.reading.NotationFault.TheVariants.{NoMemory}
-use Rattle.cube.specs.notation.Tokens.{token}
+use Rattle.cube.specs.notation.{Tokens.token, Notation.IsUnlessNoMemory}
 use Rattle.cube.specs.notation.Notation.{AreSpaces, Spells, spelling, Leads, BeginsWithSpace}
-use Rattle.cube.specs.notation.Notation.{IsBehind}
-use Rattle.cube.specs.notation.Notation.{BeginsWithMove, IsBadTokenAt, IsTooMany, IsUnlessNoMemory}
+use Rattle.cube.specs.notation.Notation.{IsBehind, BeginsWithMove, IsBadTokenAt, IsTooMany}
 use Rattle.cube.specs.notation.model.Scan.{word_len, space_len, behind_word, behind_spaces}
-use Rattle.cube.specs.notation.model.Scan.{move_named}
-use Rattle.cube.specs.notation.model.Scan.{with_move, scan_on, scan}
-use Rattle.cube.proofs.notation.Joined.{with_moves, with_moves_fault}
+use Rattle.cube.specs.notation.model.Scan.{move_named, with_move, scan_on, scan}
+use Rattle.cube.proofs.notation.{Joined.with_moves, Words.space_some, Words.space_len-replicate}
 use Rattle.cube.proofs.notation.Words.{Ends, move_named-token, word_len-token, token_no_space}
 use Rattle.cube.proofs.notation.Words.{token_not_empty, named_token, behind_ends, spaces_first}
-use Rattle.cube.proofs.notation.Words.{space_some, space_len-replicate}
 
 drop_whole : (xs : List ℕ) → drop (length xs) xs ≡ []
 drop_whole [] = refl

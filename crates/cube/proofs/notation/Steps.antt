@@ -2,19 +2,14 @@
 use Rattle.std.proofs.Common.{◌≡◌, ◌≢◌, ℕ, zero, suc, ◌+◌, ◌-◌, ◌<◌, ◌≤◌, true, false, eqb, List}
 use Rattle.std.proofs.Common.{[], ◌∷◌, ◌++◌, length, take, get_or, refl, sym, ap, ◌∙◌, arith, Some}
 use Rattle.std.proofs.Common.{None, Result, Ok, Err, eq-eqb, append_assoc}
-use Rattle.std.proofs.lemmas.Bool.{eqb-true}
-use Rattle.std.proofs.lemmas.List.{take_more, length-take}
-use Rattle.cube.specs.declared.moves.Move.{Move}
-use Rattle.cube.specs.declared.notation.reading.NotationFault.{NotationFault}
+use Rattle.std.proofs.lemmas.{Bool.eqb-true, List.take_more, List.length-take}
+use Rattle.cube.specs.declared.{moves.Move.Move, notation.reading.NotationFault.NotationFault}
 use Rattle.cube.specs.declared.notation.reading.NotationFault.TheVariants.{BadToken, TooMany}
-use Rattle.cube.specs.notation.Tokens.{token}
-use Rattle.cube.specs.notation.Notation.{spelling}
+use Rattle.cube.specs.notation.{Tokens.token, Notation.spelling}
 use Rattle.cube.specs.notation.model.Scan.{word_len, behind_word, behind_spaces, move_named}
-use Rattle.cube.specs.notation.model.Scan.{with_move}
-use Rattle.cube.specs.notation.model.Scan.{scan_on, scan}
+use Rattle.cube.specs.notation.model.Scan.{with_move, scan_on, scan}
 use Rattle.cube.proofs.notation.Joined.{with_moves, with_moves_more, with_moves_last}
-use Rattle.cube.proofs.notation.Joined.{with_moves_fault}
-use Rattle.cube.proofs.notation.Joined.{spelling-more}
+use Rattle.cube.proofs.notation.Joined.{with_moves_fault, spelling-more}
 
 pub empty_from : (xs : List ℕ) → eqb (length xs) 0 ≡ true → xs ≡ []
 empty_from [] h = refl

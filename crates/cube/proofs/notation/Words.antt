@@ -1,18 +1,13 @@
 -- Words and the spaces behind them.
-use Rattle.std.proofs.Common.{◌≡◌, ◌⊎◌, inl, inr, ℕ, zero, suc, ◌+◌, ◌<◌, Bool, true, false}
-use Rattle.std.proofs.Common.{not, cond, ◌&&◌, eqb, List, [], ◌∷◌, ◌++◌, length, take, drop}
-use Rattle.std.proofs.Common.{replicate, refl, sym, ap, ◌∙◌, subst, arith, Option, Some, None}
-use Rattle.std.proofs.Common.{eq-eqb}
-use Rattle.std.proofs.lemmas.List.{append-nil}
-use Rattle.std.proofs.lemmas.Bool.{eqb-true, and_parts}
-use Rattle.cube.specs.declared.moves.Side.{Side}
+use Rattle.std.proofs.Common.{◌≡◌, ◌⊎◌, inl, inr, ℕ, zero, suc, ◌+◌, ◌<◌, Bool, true, false, not}
+use Rattle.std.proofs.Common.{cond, ◌&&◌, eqb, List, [], ◌∷◌, ◌++◌, length, take, drop, replicate}
+use Rattle.std.proofs.Common.{refl, sym, ap, ◌∙◌, subst, arith, Option, Some, None, eq-eqb}
+use Rattle.std.proofs.lemmas.{List.append-nil, Bool.eqb-true, Bool.and_parts}
+use Rattle.cube.specs.declared.moves.{Side.Side, Kind.Kind, Quarter.Quarter, Move.Move}
 use Rattle.cube.specs.declared.moves.Side.TheVariants.{U, R, F, D, L, B}
 use Rattle.cube.specs.declared.moves.Axis.TheVariants.{X, Y, Z}
-use Rattle.cube.specs.declared.moves.Kind.{Kind}
 use Rattle.cube.specs.declared.moves.Kind.TheVariants.{Face, Block, Turn}
-use Rattle.cube.specs.declared.moves.Quarter.{Quarter}
 use Rattle.cube.specs.declared.moves.Quarter.TheVariants.{Clockwise, Half, Anticlockwise}
-use Rattle.cube.specs.declared.moves.Move.{Move}
 use Rattle.cube.specs.notation.Tokens.{token, stem, mark, side_letter}
 use Rattle.cube.specs.notation.Notation.{BeginsWithSpace}
 use Rattle.cube.specs.notation.model.Scan.{word_len, space_len, move_named, side_named, kind_named}

@@ -1,18 +1,13 @@
 -- A model of the code: the colours that the pieces of the cube show, as the code keeps them.
 use Rattle.std.specs.Prelude.{ℕ, List, [], ◌∷◌, slice_index_or, Bool, true, false}
-use Rattle.cube.specs.declared.moves.Colour.{Colour}
+use Rattle.cube.specs.declared.{moves.Colour.Colour, pieces.Pieces.Pieces}
 use Rattle.cube.specs.declared.moves.Colour.TheVariants.{U, R, F, D, L, B}
-use Rattle.cube.specs.declared.pieces.CornerPiece.{CornerPiece}
+use Rattle.cube.specs.declared.pieces.CornerPiece.{CornerPiece, TheVariants.Drb}
 use Rattle.cube.specs.declared.pieces.CornerPiece.TheVariants.{Urf, Ufl, Ulb, Ubr, Dfr, Dlf, Dbl}
-use Rattle.cube.specs.declared.pieces.CornerPiece.TheVariants.{Drb}
-use Rattle.cube.specs.declared.pieces.Twist.{Twist}
+use Rattle.cube.specs.declared.pieces.{Twist.Twist, Corner.Corner, EdgePiece.EdgePiece, Edge.Edge}
 use Rattle.cube.specs.declared.pieces.Twist.TheVariants.{Upright, Clockwise, Anticlockwise}
-use Rattle.cube.specs.declared.pieces.Corner.{Corner}
-use Rattle.cube.specs.declared.pieces.EdgePiece.{EdgePiece}
 use Rattle.cube.specs.declared.pieces.EdgePiece.TheVariants.{Ur, Uf, Ul, Ub, Dr, Df, Dl, Db, Fr, Fl}
 use Rattle.cube.specs.declared.pieces.EdgePiece.TheVariants.{Bl, Br}
-use Rattle.cube.specs.declared.pieces.Edge.{Edge}
-use Rattle.cube.specs.declared.pieces.Pieces.{Pieces}
 use Rattle.cube.specs.Turns.{opposite_colour}
 
 -- the colours of a corner, clockwise from that of the upper or lower side

@@ -4,12 +4,9 @@
 use Rattle.std.specs.Prelude.{◌≡◌, ◌≢◌, ◌⊎◌, ℕ, ◌+◌, ◌<◌, ◌≤◌, Bool, true, false, List, [], ◌∷◌}
 use Rattle.std.specs.Prelude.{◌++◌, length, map, replicate, count_by, Result, Err}
 use Rattle.std.specs.List.{join_with_byte}
-use Rattle.cube.specs.declared.moves.Kind.{Kind}
+use Rattle.cube.specs.{declared.moves.Kind.Kind, declared.moves.Move.Move, notation.Tokens.token}
 use Rattle.cube.specs.declared.moves.Kind.TheVariants.{Face, Block, Turn}
-use Rattle.cube.specs.declared.moves.Move.{Move}
-use Rattle.cube.specs.declared.notation.reading.NotationFault.{NotationFault}
-use Rattle.cube.specs.declared.notation.reading.NotationFault.TheVariants.{NoMemory}
-use Rattle.cube.specs.notation.Tokens.{token}
+use Rattle.cube.specs.declared.notation.reading.NotationFault.{NotationFault, TheVariants.NoMemory}
 
 -- one or more spaces
 abbrev pub AreSpaces : List ℕ → Type 0

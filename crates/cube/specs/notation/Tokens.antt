@@ -1,14 +1,10 @@
 -- How a move is written (WCA Regulations, article 12).
 use Rattle.std.specs.Prelude.{ℕ, List, [], ◌++◌, codes}
-use Rattle.cube.specs.declared.moves.Side.{Side}
+use Rattle.cube.specs.declared.moves.{Side.Side, Axis.Axis, Kind.Kind, Quarter.Quarter, Move.Move}
 use Rattle.cube.specs.declared.moves.Side.TheVariants.{U, R, F, D, L, B}
-use Rattle.cube.specs.declared.moves.Axis.{Axis}
 use Rattle.cube.specs.declared.moves.Axis.TheVariants.{X, Y, Z}
-use Rattle.cube.specs.declared.moves.Kind.{Kind}
 use Rattle.cube.specs.declared.moves.Kind.TheVariants.{Face, Block, Turn}
-use Rattle.cube.specs.declared.moves.Quarter.{Quarter}
 use Rattle.cube.specs.declared.moves.Quarter.TheVariants.{Clockwise, Half, Anticlockwise}
-use Rattle.cube.specs.declared.moves.Move.{Move}
 
 -- the letter of a side
 abbrev pub side_letter : Side → List ℕ

@@ -3,9 +3,8 @@
 ghost use Rattle.std.specs.Prelude.{◌≡◌, ◌≤◌, ◌↔◌, ℕ, List, [], length, Ok, Err};
 ghost use Rattle.cube.specs.declared.moves.Move.{Move};
 ghost use Rattle.cube.specs.notation.Notation.{Spells, IsBadTokenAt, IsTooMany, IsUnlessNoMemory};
-ghost use Rattle.cube.specs.notation.model.Scan.{word_len as length_of_word};
+ghost use Rattle.cube.specs.notation.model.Scan.{word_len as length_of_word, scan};
 ghost use Rattle.cube.specs.notation.model.Scan.{space_len as length_of_spaces, behind_spaces};
-ghost use Rattle.cube.specs.notation.model.Scan.{scan};
 
 use crate::notation::moves::Moves;
 use crate::notation::tokens::move_of;

@@ -1,26 +1,17 @@
 -- A log that was read from a desk's files.
-use Rattle.std.proofs.Common.{◌≡◌, ◌⊎◌, inl, inr, ◌∙◌, sym, ap, subst, ℕ, List, [], Option, Some}
-use Rattle.std.proofs.Common.{None, Result, Ok, Err, IfOk, IsTrue, true, ◌≢◌}
+use Rattle.std.proofs.Common.{◌≡◌, inl, inr, sym, subst, ℕ, List, [], Option, Some, None, Result}
+use Rattle.std.proofs.Common.{Ok, Err, IfOk, IsTrue, true, ◌≢◌}
 use Rattle.std.proofs.lemmas.Result.{IfOk-weaker}
-use Rattle.sqlite.specs.Effect.{Database}
-use Rattle.sqlite.specs.Order.{Row}
-use Rattle.sqlite.specs.Recovery.{Image}
-use Rattle.sqlite.specs.Start.{FindsIn}
-use Rattle.sqlite.specs.State.{State, HasCleanDisk, IsLive, IsRolledBack, Opens as IsFresh, Fails}
-use Rattle.sqlite.specs.State.{FailsToQuery, FailsToShow, IsNotRun, QueriesRow, QueriesRowInside}
-use Rattle.sqlite.specs.State.{Shown, ShowsRows}
+use Rattle.sqlite.specs.{Effect.Database, Order.Row, Recovery.Image, Start.FindsIn, State.ShowsRows}
+use Rattle.sqlite.specs.State.{State, HasCleanDisk, IsLive, Opens as IsFresh, Fails, FailsToQuery}
+use Rattle.sqlite.specs.State.{FailsToShow, IsNotRun, QueriesRow, QueriesRowInside, Shown}
 use Rattle.sqlite.specs.declared.error.Error.{Error}
 use Rattle.sqlite_resolve.specs.declared.compiled.Compiled.{Compiled}
 use Rattle.sqlite_schema.specs.declared.command.Returning.{Returning}
-use Rattle.acceptor.specs.declared.entry.Entry.{Entry}
-use Rattle.acceptor.specs.declared.stored.Stored.{Stored}
+use Rattle.acceptor.specs.declared.{entry.Entry.Entry, stored.Stored.Stored}
 use Rattle.learner.specs.Logs.{LogValue}
-use Rattle.store.specs.Kept.{Keeps}
 use Rattle.store.specs.Layout.{IsOurs, no_schema}
-use Rattle.store.specs.Holding.{Holds}
-use Rattle.store.specs.Opening.{Opens}
-use Rattle.store.specs.Ranges.{IsHome}
-use Rattle.store.specs.declared.home.Home.{Home}
+use Rattle.store.specs.{Holding.Holds, Opening.Opens, Ranges.IsHome, declared.home.Home.Home}
 use Rattle.desk_file.specs.stored_log.StoredLogs.{HasLog, IsFound, IsReadFrom}
 use Rattle.desk_file.specs.declared.stored_log.fault.StoredLogFault.{StoredLogFault}
 use Rattle.desk_file.specs.stored_log.model.Back.{IsBack}
@@ -42,8 +33,7 @@ refused_unmoved : (old new : State) (sql : List ℕ) (c : Compiled) (params : Ro
     → IsTrue new.is_open → new.committed ≡ old.committed
 refused_unmoved old new sql c params e None h live = h.3.0.committed_is
 refused_unmoved old new sql c params e (Some what) (inl h) live = h.1.0.committed_is
-refused_unmoved old new sql c params e (Some what) (inr h) live =
-    failed_unmoved old new _ e h live
+refused_unmoved old new sql c params e (Some what) (inr h) live = failed_unmoved old new _ e h live
 
 unqueried : (sql : List ℕ) (params : Row) (old new : State) (e : Error)
     → FailsToQuery sql params old new e → IsTrue new.is_open → new.committed ≡ old.committed
@@ -101,14 +91,11 @@ found files c fresh live finds = record {
 }
 
 pub read_from : {K : Type 0} (IsHonest : K → Type 0) (files : Image) (c : State)
-    (r : Result LogValue StoredLogFault)
-    → (HasCleanDisk c → IsFound files c.committed)
+    (r : Result LogValue StoredLogFault) → (HasCleanDisk c → IsFound files c.committed)
     → IfOk r (λ log. (last : K) × (IsHonest last → HasCleanDisk c × HasLog c.committed log.entries))
     → IfOk r (λ log. IsReadFrom IsHonest files log.entries)
 read_from IsHonest files c r finds h =
-    IfOk-weaker r _ _
-    (λ log k. (
+    IfOk-weaker r _ _ (λ log k. (
       k.0,
       λ honest. let is = k.1 honest in (c.committed, finds is.0, is.1),
-    ))
-    h
+    )) h

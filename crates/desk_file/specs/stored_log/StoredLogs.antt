@@ -2,21 +2,14 @@
 use Rattle.std.specs.Prelude.{◌≡◌, ◌⊎◌, ℕ, List, Option}
 use Rattle.std.specs.Io.KnownBytes.{Appends, Keeps}
 use Rattle.sqlite.specs.Effect.{Database, IsDatabase}
-use Rattle.sqlite.specs.Files.{AreFoundIn, HoldsDatabase}
-use Rattle.sqlite.specs.Recovery.{Image}
-use Rattle.sqlite.specs.Tree.{Trees}
-use Rattle.acceptor.specs.declared.entry.Entry.{Entry}
-use Rattle.acceptor.specs.declared.stored.Stored.{Stored}
-use Rattle.archive.specs.Archive.{archive_text}
-use Rattle.archive.specs.Replayed.{IsReplayed}
+use Rattle.sqlite.specs.{Files.AreFoundIn, Files.HoldsDatabase, Recovery.Image, Tree.Trees}
+use Rattle.acceptor.specs.declared.{entry.Entry.Entry, stored.Stored.Stored}
+use Rattle.archive.specs.{Archive.archive_text, Replayed.IsReplayed}
 use Rattle.lines.specs.Bytes.{AppendsPart}
-use Rattle.store.specs.Holding.{Holds}
-use Rattle.store.specs.Layout.{IsOurs}
-use Rattle.store.specs.Ranges.{IsHome}
-use Rattle.store.specs.declared.fault.OpenFault.{OpenFault}
-use Rattle.store.specs.declared.fault.OpenFault.TheVariants as opening
-use Rattle.store.specs.declared.home.Home.{Home}
+use Rattle.store.specs.{Holding.Holds, Layout.IsOurs, Ranges.IsHome}
+use Rattle.store.specs.declared.{fault.OpenFault.OpenFault, home.Home.Home}
 use Rattle.desk_file.specs.declared.stored_log.fault.StoredLogFault.{StoredLogFault}
+use Rattle.store.specs.declared.fault.OpenFault.TheVariants as opening
 use Rattle.desk_file.specs.declared.stored_log.fault.StoredLogFault.TheVariants as fault
 
 -- the archive of a log was written, and a replay of it gives the sheets of that log

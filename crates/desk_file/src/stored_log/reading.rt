@@ -1,17 +1,11 @@
 //! A desk's file, and the log that it holds.
 
-ghost use Rattle.std.specs.Prelude.{◌≡◌, ◌≢◌, false, IfOk, IfErr, IfSome, IsTrue, OnOk};
-ghost use Rattle.std.specs.Prelude.{OnErr};
-ghost use Rattle.sqlite.specs.Files.{file_state};
-ghost use Rattle.sqlite.specs.Held.{state};
-ghost use Rattle.sqlite.specs.State.{HasCleanDisk};
-ghost use Rattle.sqlite.specs.WalFiles.{image_at};
-ghost use Rattle.store.specs.Layout.{no_schema};
-ghost use Rattle.store.specs.Ranges.{IsHome};
+ghost use Rattle.std.specs.Prelude.{◌≡◌, ◌≢◌, false, IfOk, IfErr, IfSome, IsTrue, OnOk, OnErr};
+ghost use Rattle.sqlite.specs.{Files.file_state, Held.state, State.HasCleanDisk, WalFiles.image_at};
+ghost use Rattle.store.specs.{Layout.no_schema, Ranges.IsHome};
 ghost use Rattle.desk_file.specs.stored_log.StoredLogs.{FailsLog, IsFound, IsOfFile, IsReadFrom};
 ghost use Rattle.desk_file.specs.stored_log.StoredLogs.{PrintsHeld, PrintsLog, PrintsLogPart};
-ghost use Rattle.desk_file.specs.stored_log.model.Back.{IsBack};
-ghost use Rattle.desk_file.specs.stored_log.model.Kept.{IsKeptBy, IsLogOf};
+ghost use Rattle.desk_file.specs.stored_log.model.{Back.IsBack, Kept.IsKeptBy, Kept.IsLogOf};
 
 use crate::stored_log::fault::{StoredLogFault, fault_of_open, fault_of_run};
 use crate::{check_use, fault_of_load, open_file};

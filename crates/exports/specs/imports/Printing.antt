@@ -2,15 +2,12 @@
 use Rattle.std.specs.Prelude.{◌≡◌, ℕ, ◌+◌, ◌++◌, List, take, Option, None, Some}
 use Rattle.std.specs.Io.KnownBytes.{Appends, Keeps}
 use Rattle.lines.specs.Bytes.{AppendsPart, HasLeft}
-use Rattle.wcif.specs.Files.{FileFails, SetsUp, most_bytes}
-use Rattle.wcif.specs.Later.{SaysLater, later_lines}
-use Rattle.wcif.specs.Lines.{lines}
-use Rattle.wcif.specs.declared.file.FileFault.{FileFault}
-use Rattle.wcif.specs.declared.file.FileFault.TheVariants as file
-use Rattle.wcif.specs.declared.later.RoundImport.{RoundImport}
+use Rattle.wcif.specs.{Files.FileFails, Files.SetsUp, Files.most_bytes, Later.later_lines}
+use Rattle.wcif.specs.{Later.SaysLater, Lines.lines, declared.options.Options.Options}
+use Rattle.wcif.specs.declared.{file.FileFault.FileFault, later.RoundImport.RoundImport}
 use Rattle.texts.specs.declared.command.Command.{Command}
-use Rattle.wcif.specs.declared.options.Options.{Options}
 use Rattle.exports.specs.declared.imports.fault.ImportsFault.{ImportsFault}
+use Rattle.wcif.specs.declared.file.FileFault.TheVariants as file
 use Rattle.exports.specs.declared.imports.fault.ImportsFault.TheVariants as fault
 
 -- all bytes that a reader has, where it tells them, or one more than a file may have
@@ -30,8 +27,7 @@ pub record IsImported (options : Options) (bytes text : List ℕ) : Type 0 where
 -- it was written
 abbrev pub PrintsImport : Options → (had old new : Option (List ℕ)) → Type 0
 PrintsImport options had old new =
-    (bytes text : List ℕ) × HasLeft had bytes × IsImported options bytes text
-    × Appends old new text
+    (bytes text : List ℕ) × HasLeft had bytes × IsImported options bytes text × Appends old new text
 
 -- a front part of it was written
 abbrev pub PrintsPart : Options → (had old new : Option (List ℕ)) → Type 0

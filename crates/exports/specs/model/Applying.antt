@@ -2,8 +2,7 @@
 use Rattle.std.specs.Prelude.{ℕ, List, Option}
 use Rattle.commands.specs.History.{History}
 use Rattle.lines.specs.Bytes.{HasLeft}
-use Rattle.exports.specs.Logs.{IsMeetOf, IsNoMeet}
-use Rattle.exports.specs.declared.logs.LogFault.{LogFault}
+use Rattle.exports.specs.{Logs.IsMeetOf, Logs.IsNoMeet, declared.logs.LogFault.LogFault}
 
 -- all lines of what the reader had were applied
 abbrev pub AppliesAll : History → Option (List ℕ) → Type 0

@@ -1,7 +1,6 @@
 -- What the parts of looking again at a file may meet.
-use Rattle.fault_hints.specs.declared.findings.FileFinding.{FileFinding}
+use Rattle.fault_hints.specs.{declared.findings.FileFinding.FileFinding, Looking.IsOfSystem}
 use Rattle.fault_hints.specs.declared.findings.FileFinding.TheVariants as file
-use Rattle.fault_hints.specs.Looking.{IsOfSystem}
 
 -- why no file is at a path
 abbrev pub IsOfPath : FileFinding → Type 0

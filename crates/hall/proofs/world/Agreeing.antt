@@ -6,8 +6,7 @@ use Rattle.std.specs.List.{position_from}
 use Rattle.acceptor.specs.declared.entry.Entry.{Entry}
 use Rattle.texts.specs.declared.answer.Answer.{Answer}
 use Rattle.commands.specs.History.{history, answer_to}
-use Rattle.learner.specs.Laws.{IsPrefix, LogsAgree, LogsAreSubmitted}
-use Rattle.learner.specs.Logs.{position_of}
+use Rattle.learner.specs.{Laws.IsPrefix, Laws.LogsAgree, Laws.LogsAreSubmitted, Logs.position_of}
 use Rattle.answers.specs.Answers.{texts, is_queued, told, told_at, told_by}
 use Rattle.answers.specs.declared.answers.IdState.TheVariants.{Done, Pending, Unknown}
 use Rattle.answers.proofs.Fronts.{found_front, get_front, same_front, same_sheet}

@@ -1,27 +1,21 @@
 -- What one event makes of a hall.
-use Rattle.std.proofs.Common.{◌≡◌, ℕ, suc, zero, ◌+◌, ◌==◌, inl, ◌-◌, Bool, true, false}
-use Rattle.std.proofs.Common.{if◌then◌else◌, List, [], ◌∷◌, ◌++◌, Option, Some, None, Result, Ok}
-use Rattle.std.proofs.Common.{Err, IfOk, OnOk, OnErr, set, slice_get, take, length, ◌≤◌, refl, sym}
-use Rattle.std.proofs.Common.{ap, ◌∙◌, subst, arith}
-use Rattle.acceptor.specs.declared.entry.Entry.{Entry}
-use Rattle.acceptor.specs.declared.message.Message.{Message}
+use Rattle.std.proofs.Common.{◌≡◌, ℕ, suc, zero, ◌+◌, ◌==◌, ◌-◌, Bool, true, false, if◌then◌else◌}
+use Rattle.std.proofs.Common.{List, [], ◌∷◌, ◌++◌, Option, Some, None, Result, Ok, Err, IfOk, OnOk}
+use Rattle.std.proofs.Common.{OnErr, get_or, set, slice_get, refl, sym, ap, ◌∙◌, subst, arith}
+use Rattle.acceptor.specs.declared.{entry.Entry.Entry, message.Message.Message}
 use Rattle.proposer.specs.declared.fault.Refusal.{Refusal}
-use Rattle.learner.specs.declared.event.DeskEvent.{DeskEvent}
-use Rattle.learner.specs.declared.event.WorldEvent.{WorldEvent}
+use Rattle.learner.specs.declared.event.{DeskEvent.DeskEvent, WorldEvent.WorldEvent}
 use Rattle.std.proofs.Math.Path.{fun_ext}
-use Rattle.learner.specs.Ranges.{DeskIsInRange}
-use Rattle.learner.specs.Desks.{first_desk, restarted}
+use Rattle.learner.{specs.Desks.first_desk, specs.Desks.restarted, proofs.Runs.run_append}
 use Rattle.learner.specs.Steps.{Done, done, idle, is_desk, is_heeded, on_body, step}
 use Rattle.learner.specs.declared.event.DeskEvent.TheVariants.{Submit, Deliver}
 use Rattle.learner.specs.Worlds.{World, new_world, put, world_after, at_desk, nth_sent, delivered}
 use Rattle.learner.specs.Worlds.{restart_at, happens, run, after}
 use Rattle.replica.specs.roles.model.RunningDesks.{RunningDesk}
 use Rattle.hall.specs.world.model.Halls.{HallValue, desk_from, known_by, world_of, AreNumbered}
-use Rattle.hall.specs.world.model.Halls.{Does}
-use Rattle.hall.specs.world.WorldValues.{refusal_of, refusal_at, refusal}
-use Rattle.hall.specs.world.WorldValues.{refused_by, last_refusal}
-use Rattle.hall.specs.world.model.Halls.{IsAfter}
-use Rattle.hall.proofs.world.Places.{stands, known_at, numbered_set, put_desk, known_same}
+use Rattle.hall.specs.world.model.Halls.{Does, IsAfter}
+use Rattle.hall.specs.world.WorldValues.{refusal_of, refusal_at, refusal, refused_by, last_refusal}
+use Rattle.hall.proofs.world.Places.{here_at, known_at, known_same, put_desk, stands}
 
 abbrev pub hall_of : ℕ → List RunningDesk → List Message → HallValue
 hall_of n places sent = record { desks = n; places = known_by places; sent = sent }
@@ -30,7 +24,6 @@ hall_of n places sent = record { desks = n; places = known_by places; sent = sen
 pub record Follows {E : Type 0} (n : ℕ) (new : List RunningDesk) (more : List Message)
     (result : Result (Option Refusal) E) (old : HallValue) (next : World)
     (why : Option Refusal) : Type 0 where
-  pub numbered : AreNumbered n 1 new
   pub world : OnOk result (world_of (hall_of n new more) ≡ next)
   pub refused : IfOk result (λ r. r ≡ why)
   pub err : OnErr result (hall_of n new more ≡ old)
@@ -50,8 +43,7 @@ on_err (Ok a) g h = h
 on_err (Err e) g h = g h
 
 does_world : (n d : ℕ) (places : List RunningDesk) (x y : RunningDesk) (sent more : List Message)
-    (r : Option Refusal)
-    → is_desk n d ≡ true → slice_get places (d - 1) ≡ Some x
+    (r : Option Refusal) → is_desk n d ≡ true → slice_get places (d - 1) ≡ Some x
     → (s : Result Done Refusal) → Does x y sent more r s
     → world_of (hall_of n (set places (d - 1) y) more)
     ≡ world_after (world_of (hall_of n places sent)) d s
@@ -64,8 +56,7 @@ does_world n d places x y sent more r ours here (Err why) h =
     λ i. record { desks = same i; sent = h.1 i }
 
 does_refused : (x y : RunningDesk) (sent more : List Message) (r : Option Refusal)
-    (s : Result Done Refusal)
-    → Does x y sent more r s → r ≡ refusal_of s
+    (s : Result Done Refusal) → Does x y sent more r s → r ≡ refusal_of s
 does_refused x y sent more r (Ok q) h = h.2
 does_refused x y sent more r (Err why) h = h.2
 
@@ -92,35 +83,26 @@ same_step n d places x event numbered ours here =
 event_follows : {E : Type 0} (n d : ℕ) (places : List RunningDesk) (x y : RunningDesk)
     (sent more : List Message) (result : Result (Option Refusal) E) (event : DeskEvent)
     → AreNumbered n 1 places → is_desk n d ≡ true → slice_get places (d - 1) ≡ Some x
-    → (y.number ≡ x.number) × (y.desks ≡ x.desks)
     → IfOk result (λ r. Does x y sent more r (step x.desks x.number x.desk event))
     → OnErr result ((y.desk ≡ x.desk) × (more ≡ sent))
     → Follows n (set places (d - 1) y) more result (hall_of n places sent)
     (at_desk n (world_of (hall_of n places sent)) d event)
     (refusal_at n (world_of (hall_of n places sent)) d event)
-event_follows n d places x y sent more result event numbered ours here same ok err =
+event_follows n d places x y sent more result event numbered ours here ok err =
     let w = world_of (hall_of n places sent) in
     let s = same_step n d places x event numbered ours here in
     record {
-      numbered = numbered_set n d places x y numbered here same.0 same.1;
       world =
-          on_ok (λ r. Does x y sent more r (step x.desks x.number x.desk event)) result
-          (λ r h.
+          on_ok (λ r. Does x y sent more r (step x.desks x.number x.desk event)) result (λ r h.
           does_world n d places x y sent more r ours here (step n d (w.desks d) event)
-          (subst (λ q. Does x y sent more r q) s h)
-          ∙ sym (at_there n d w event ours))
-          ok;
+          (subst (λ q. Does x y sent more r q) s h) ∙ sym (at_there n d w event ours)) ok;
       refused =
           if_ok (λ r. Does x y sent more r (step x.desks x.number x.desk event))
-          (λ r. r ≡ refusal_at n w d event) result
-          (λ r h.
+          (λ r. r ≡ refusal_at n w d event) result (λ r h.
           does_refused x y sent more r (step n d (w.desks d) event)
-          (subst (λ q. Does x y sent more r q) s h)
-          ∙ sym (refusal_there n d w event ours))
-          ok;
+          (subst (λ q. Does x y sent more r q) s h) ∙ sym (refusal_there n d w event ours)) ok;
       err =
-          on_err result
-          (λ h. λ i.
+          on_err result (λ h. λ i.
           record { desks = n; places = known_same (d - 1) places x y here h.0 i; sent = h.1 i })
           err;
     }
@@ -128,20 +110,18 @@ event_follows n d places x y sent more result event numbered ours here same ok e
 -- the same, from the hall as its contract shows it
 pub seen_follows : {E : Type 0} (n d : ℕ) (places : List RunningDesk) (x y : RunningDesk)
     (sent more : List Message) (result : Result (Option Refusal) E) (event : DeskEvent)
-    (old : HallValue)
-    → hall_of n places sent ≡ old → AreNumbered n 1 places → is_desk n d ≡ true
-    → slice_get places (d - 1) ≡ Some x → (y.number ≡ x.number) × (y.desks ≡ x.desks)
+    (old : HallValue) → hall_of n places sent ≡ old → AreNumbered n 1 places → is_desk n d ≡ true
+    → x ≡ get_or places (d - 1) x
     → IfOk result (λ r. Does x y sent more r (step x.desks x.number x.desk event))
     → OnErr result ((y.desk ≡ x.desk) × (more ≡ sent))
     → Follows n (set places (d - 1) y) more result old (at_desk old.desks (world_of old) d event)
     (refusal_at old.desks (world_of old) d event)
-seen_follows n d places x y sent more result event old view numbered ours here same ok err =
-    subst
-    (λ (h : HallValue).
+seen_follows n d places x y sent more result event old view numbered ours is ok err =
+    subst (λ (h : HallValue).
     Follows n (set places (d - 1) y) more result h (at_desk h.desks (world_of h) d event)
-    (refusal_at h.desks (world_of h) d event))
-    view
-    (event_follows n d places x y sent more result event numbered ours here same ok err)
+    (refusal_at h.desks (world_of h) d event)) view
+    (event_follows n d places x y sent more result event numbered ours
+    (here_at n d places x numbered ours is) ok err)
 
 -- the message of a number
 pub nth_there : (sent : List Message) (k : ℕ) (m : Message) → ¬ (k ≡ 0)
@@ -158,11 +138,9 @@ delivered_there n w k m e = sym (ap (delivered n w) e)
 pub never_refused : (n : ℕ) (w : World) (d : ℕ) (m : Message) → refusal_at n w d (Deliver m) ≡ None
 never_refused n w d m = go (is_desk n d)
   where
-    heeded : (t : Bool)
-        → refusal_of
+    heeded : (t : Bool) → refusal_of
         (if t then Ok (done (w.desks d) (on_body n d (w.desks d) m.from m.body))
-        else Ok (idle (w.desks d)))
-        ≡ None
+        else Ok (idle (w.desks d))) ≡ None
     heeded true = refl
     heeded false = refl
 
@@ -172,60 +150,43 @@ never_refused n w d m = go (is_desk n d)
 
 -- an entry that is handed in is copied first, and nothing is sent
 pub submit_follows : {E : Type 0} (n d : ℕ) (places : List RunningDesk) (x y : RunningDesk)
-    (sent : List Message) (result : Result (Option Refusal) E) (copy e : Entry)
-    → copy ≡ e
+    (sent : List Message) (result : Result (Option Refusal) E) (copy e : Entry) → copy ≡ e
     → (old : HallValue) → hall_of n places sent ≡ old → AreNumbered n 1 places → is_desk n d ≡ true
-    → slice_get places (d - 1) ≡ Some x → (y.number ≡ x.number) × (y.desks ≡ x.desks)
-    → IfOk result
+    → x ≡ get_or places (d - 1) x → IfOk result
     (λ r. (said : List Message) → Does x y said said r (step x.desks x.number x.desk (Submit copy)))
-    → OnErr result (y.desk ≡ x.desk)
-    → Follows n (set places (d - 1) y) sent result old
+    → OnErr result (y.desk ≡ x.desk) → Follows n (set places (d - 1) y) sent result old
     (at_desk old.desks (world_of old) d (Submit e))
     (refusal_at old.desks (world_of old) d (Submit e))
-submit_follows n d places x y sent result copy e same_entry old view numbered ours here same ok
-    err =
-    subst
-    (λ (f : Entry).
-    Follows n (set places (d - 1) y) sent result old
+submit_follows n d places x y sent result copy e same_entry old view numbered ours is ok err =
+    subst (λ (f : Entry). Follows n (set places (d - 1) y) sent result old
     (at_desk old.desks (world_of old) d (Submit f))
-    (refusal_at old.desks (world_of old) d (Submit f)))
-    same_entry
-    (seen_follows n d places x y sent sent result (Submit copy) old view numbered ours here same
-    (if_ok
+    (refusal_at old.desks (world_of old) d (Submit f))) same_entry
+    (seen_follows n d places x y sent sent result (Submit copy) old view numbered ours is (if_ok
     (λ r. (said : List Message) → Does x y said said r (step x.desks x.number x.desk (Submit copy)))
     (λ r. Does x y sent sent r (step x.desks x.number x.desk (Submit copy))) result (λ r h. h sent)
-    ok)
-    (on_err result (λ h. (h, refl)) err))
+    ok) (on_err result (λ h. (h, refl)) err))
 
 -- a message that is delivered is there, and a delivery is never refused
 pub deliver_follows : {E : Type 0} (n : ℕ) (places : List RunningDesk) (x y : RunningDesk)
     (sent more : List Message) (result : Result (Option Refusal) E) (k : ℕ) (m : Message)
-    → ¬ (k ≡ 0)
-    → slice_get sent (k - 1) ≡ Some m → (old : HallValue) → hall_of n places sent ≡ old
-    → AreNumbered n 1 places → is_desk n m.to ≡ true → slice_get places (m.to - 1) ≡ Some x
-    → (y.number ≡ x.number) × (y.desks ≡ x.desks)
-    → IfOk result
+    → ¬ (k ≡ 0) → slice_get sent (k - 1) ≡ Some m → (old : HallValue) → hall_of n places sent ≡ old
+    → AreNumbered n 1 places → is_desk n m.to ≡ true → x ≡ get_or places (m.to - 1) x → IfOk result
     (λ r. (f : Message) → slice_get sent (k - 1) ≡ Some f
     → Does x y sent more r (step x.desks x.number x.desk (Deliver f)))
     → OnErr result ((y.desk ≡ x.desk) × (more ≡ sent))
     → Follows n (set places (m.to - 1) y) more result old
     (delivered old.desks (world_of old) (nth_sent old.sent k)) None
-deliver_follows n places x y sent more result k m some there old view numbered ours here same ok
-    err =
+deliver_follows n places x y sent more result k m some there old view numbered ours is ok err =
     let told : nth_sent old.sent k ≡ Some m = ap (λ (h : HallValue). nth_sent h.sent k) (sym view)
     ∙ nth_there sent k m some there in
     let all =
-    seen_follows n m.to places x y sent more result (Deliver m) old view numbered ours here same
-    (if_ok
+    seen_follows n m.to places x y sent more result (Deliver m) old view numbered ours is (if_ok
     (λ r. (f : Message) → slice_get sent (k - 1) ≡ Some f
     → Does x y sent more r (step x.desks x.number x.desk (Deliver f)))
     (λ r. Does x y sent more r (step x.desks x.number x.desk (Deliver m))) result (λ r h. h m there)
-    ok)
-    err in
+    ok) err in
     subst (λ (w : World). Follows n (set places (m.to - 1) y) more result old w None)
-    (delivered_there old.desks (world_of old) k m told)
-    (subst
-    (λ (why : Option Refusal).
+    (delivered_there old.desks (world_of old) k m told) (subst (λ (why : Option Refusal).
     Follows n (set places (m.to - 1) y) more result old
     (at_desk old.desks (world_of old) m.to (Deliver m)) why)
     (never_refused old.desks (world_of old) m.to m) all)
@@ -251,17 +212,11 @@ restart_world n d places x y sent ours here new =
     ≡ record { desks = put w.desks d (restarted (w.desks d)); sent = w.sent } = λ i.
     record { desks = moved i; sent = sent } in
     next ∙ sym (ap (λ t. if t then record {
-      desks =
-          put w.desks d (restarted (w.desks d));
+      desks = put w.desks d (restarted (w.desks d));
       sent = w.sent;
     } else w) ours)
 
 -- ---- one more event in a history
-
-run_append : (n : ℕ) (w : World) (xs ys : List WorldEvent)
-    → run n w (xs ++ ys) ≡ run n (run n w xs) ys
-run_append n w [] ys = refl
-run_append n w (x ∷ xs) ys = run_append n (happens n w x) xs ys
 
 refused_last : (n : ℕ) (w : World) (before : Option Refusal) (xs : List WorldEvent) (e : WorldEvent)
     → refused_by n w before (xs ++ e ∷ []) ≡ refusal n (run n w xs) e
@@ -270,8 +225,7 @@ refused_last n w before (x ∷ xs) e = refused_last n (happens n w x) (refusal n
 
 -- a hall that shows these events shows one more after it
 pub after_more : (old new : HallValue) (events : List WorldEvent) (e : WorldEvent)
-    (before refused : Option Refusal)
-    → IsAfter old events before → new.desks ≡ old.desks
+    (before refused : Option Refusal) → IsAfter old events before → new.desks ≡ old.desks
     → world_of new ≡ happens old.desks (world_of old) e
     → refused ≡ refusal old.desks (world_of old) e → IsAfter new (events ++ e ∷ []) refused
 after_more old new events e before refused h same world why =
@@ -328,26 +282,3 @@ pub first_world : (n last : ℕ) (xs : List RunningDesk) (sent : List Message)
 first_world n last xs sent h none =
     let known = fun_ext (first_known n 1 last xs h) in
     λ i. record { desks = known i; sent = none i }
-
-pub first_in_range : (n : ℕ) → DeskIsInRange n first_desk
-first_in_range n =
-    record {
-      log = omega arith;
-      role = tt;
-      vote = tt;
-      ballots = record { promised = inl refl; vote = tt; log = tt; role = tt; queue = tt };
-    }
-
--- ---- a list of events, one after the other
-
-take_more : (es : List WorldEvent) (k : ℕ) (e : WorldEvent) → slice_get es k ≡ Some e
-    → take (suc k) es ≡ take k es ++ e ∷ []
-take_more [] k e h = absurd cc
-take_more (x ∷ xs) zero e h = let same : x ≡ e = cc in ap (λ (y : WorldEvent). y ∷ []) same
-take_more (x ∷ xs) (suc k) e h = ap (λ (ys : List WorldEvent). x ∷ ys) (take_more xs k e h)
-
-whole : (xs : List WorldEvent) (k : ℕ) → length xs ≤ k → take k xs ≡ xs
-whole [] zero h = refl
-whole [] (suc k) h = refl
-whole (x ∷ xs) zero h = absurd (omega arith)
-whole (x ∷ xs) (suc k) h = ap (λ (ys : List WorldEvent). x ∷ ys) (whole xs k (omega arith))

@@ -1,12 +1,9 @@
 -- The desks of a hall, by their numbers.
-use Rattle.std.proofs.Common.{◌≡◌, ℕ, zero, suc, ◌+◌, ◌-◌, ◌<◌, ◌≤◌, Bool, true, false}
-use Rattle.std.proofs.Common.{if◌then◌else◌, ◌==◌, List, [], ◌∷◌, Some, length, set, slice_get}
-use Rattle.std.proofs.Common.{refl, sym, ap, ◌∙◌, subst, arith}
-use Rattle.std.proofs.lemmas.Bool.Decides.{nat_tests}
-use Rattle.std.proofs.Math.Path.{fun_ext}
-use Rattle.learner.specs.Desks.{Desk}
-use Rattle.learner.specs.Steps.{IsDesk, is_desk}
-use Rattle.learner.specs.Worlds.{put}
+use Rattle.std.proofs.Common.{◌≡◌, ℕ, zero, suc, ◌+◌, ◌-◌, ◌<◌, ◌≤◌, Bool, true, false, ◌==◌, List}
+use Rattle.std.proofs.Common.{if◌then◌else◌, [], ◌∷◌, set, get_or, refl, sym, ap, ◌∙◌, subst, arith}
+use Rattle.std.proofs.{Common.Some, Common.length, Common.slice_get, Math.Path.fun_ext}
+use Rattle.std.proofs.lemmas.{Bool.Decides.nat_tests, Option.slice_get-get_or}
+use Rattle.learner.specs.{Desks.Desk, Steps.IsDesk, Steps.is_desk, Worlds.put}
 use Rattle.replica.specs.roles.model.RunningDesks.{RunningDesk}
 use Rattle.hall.specs.world.model.Halls.{desk_from, known_by, AreNumbered}
 
@@ -23,6 +20,13 @@ place_less n d places h ours =
     let low : 1 ≤ d = grind (arith, nat_tests) in
     let high : d ≤ n = grind (arith, nat_tests) in
     omega arith
+
+-- what is read at its place is the desk there
+pub here_at : (n d : ℕ) (places : List RunningDesk) (x : RunningDesk) → AreNumbered n 1 places
+    → is_desk n d ≡ true → x ≡ get_or places (d - 1) x → slice_get places (d - 1) ≡ Some x
+here_at n d places x h ours is =
+    slice_get-get_or places (d - 1) x (place_less n d places h ours)
+    ∙ ap (λ (y : RunningDesk). Some y) (sym is)
 
 pub desk_test : (n d : ℕ) → IsDesk n d → is_desk n d ≡ true
 desk_test n d h = let low = h.0 in let high = h.1 in grind (arith, nat_tests)
@@ -79,8 +83,7 @@ known_at n d places x ours e =
 -- another desk in the place of one of the same number
 numbered_from : (n first k : ℕ) (places : List RunningDesk) (x y : RunningDesk)
     → AreNumbered n first places → slice_get places k ≡ Some x → y.number ≡ x.number
-    → y.desks ≡ x.desks
-    → AreNumbered n first (set places k y)
+    → y.desks ≡ x.desks → AreNumbered n first (set places k y)
 numbered_from n first k [] x y h e number desks = h
 numbered_from n first zero (z ∷ zs) x y h e number desks =
     let same : x ≡ z = cc in
@@ -90,14 +93,11 @@ numbered_from n first (suc k) (z ∷ zs) x y h e number desks =
 
 pub numbered_set : (n d : ℕ) (places : List RunningDesk) (x y : RunningDesk)
     → AreNumbered n 1 places → slice_get places (d - 1) ≡ Some x → y.number ≡ x.number
-    → y.desks ≡ x.desks
-    → AreNumbered n 1 (set places (d - 1) y)
+    → y.desks ≡ x.desks → AreNumbered n 1 (set places (d - 1) y)
 numbered_set n d places x y h e number desks = numbered_from n 1 (d - 1) places x y h e number desks
 
 set_desk : (first k : ℕ) (places : List RunningDesk) (x y : RunningDesk)
-    → slice_get places k ≡ Some x
-    → (d : ℕ)
-    → desk_from first (known_by (set places k y)) d
+    → slice_get places k ≡ Some x → (d : ℕ) → desk_from first (known_by (set places k y)) d
     ≡ put (desk_from first (known_by places)) (first + k) y.desk d
 set_desk first k [] x y e d = absurd cc
 set_desk first zero (z ∷ zs) x y e d =
@@ -105,8 +105,7 @@ set_desk first zero (z ∷ zs) x y e d =
     ap (λ m. if m == d then y.desk else desk_from (suc first) (known_by zs) d) here
     ∙ by_test (first == d) ((first + 0) == d) (ap (λ m. m == d) here)
   where
-    by_test : (t s : Bool) → t ≡ s
-        → (if s then y.desk else desk_from (suc first) (known_by zs) d)
+    by_test : (t s : Bool) → t ≡ s → (if s then y.desk else desk_from (suc first) (known_by zs) d)
         ≡ (if s then y.desk else (if t then z.desk else desk_from (suc first) (known_by zs) d))
     by_test t true e = refl
     by_test false false e = refl
@@ -134,8 +133,7 @@ pub put_desk : (n d : ℕ) (places : List RunningDesk) (x y : RunningDesk) → i
 put_desk n d places x y ours e =
     let low : 1 ≤ d = grind (arith, nat_tests) in
     let place : 1 + (d - 1) ≡ d = omega arith in
-    fun_ext
-    (λ k. set_desk 1 (d - 1) places x y e k
+    fun_ext (λ k. set_desk 1 (d - 1) places x y e k
     ∙ ap (λ m. put (desk_from 1 (known_by places)) m y.desk k) place)
 
 -- one that knows the same in its place changes nothing

@@ -3,9 +3,8 @@ use Rattle.std.specs.Prelude.{ℕ, nat_le, if◌then◌else◌, List, [], ◌∷
 use Rattle.std.specs.Prelude.{codes, Option, None, Some}
 use Rattle.std.specs.Option.{option_map, option_and_then}
 use Rattle.acceptor.specs.Entries.{EntryValue}
-use Rattle.learner.specs.declared.event.WorldEvent.{WorldEvent}
+use Rattle.learner.specs.declared.event.WorldEvent.{WorldEvent, TheVariants.Restart}
 use Rattle.learner.specs.declared.event.WorldEvent.TheVariants.{Submit, Start, Tick, Deliver}
-use Rattle.learner.specs.declared.event.WorldEvent.TheVariants.{Restart}
 use Rattle.texts.specs.Fields.{cut, number_between}
 use Rattle.hall.specs.Scripts.{most_delivered}
 
@@ -18,8 +17,7 @@ None >>= f = None
 
 -- an entry, where the text has at most 600 bytes
 abbrev pub entry_of : ℕ → List ℕ → Option EntryValue
-entry_of id text =
-    if nat_le (length text) 600 then Some (record { id = id; text = text }) else None
+entry_of id text = if nat_le (length text) 600 then Some (record { id = id; text = text }) else None
 
 -- a desk of n, an id and a text
 unfoldable pub submit_of : ℕ → Option (List ℕ) → Option WorldEvent
@@ -42,8 +40,7 @@ by_word n line =
     else if bytes_eq line.0 (codes "start") then number_of n Start line.1
     else if bytes_eq line.0 (codes "tick") then number_of n Tick line.1
     else if bytes_eq line.0 (codes "deliver") then number_of most_delivered Deliver line.1
-    else if bytes_eq line.0 (codes "restart") then number_of n Restart line.1
-    else None
+    else if bytes_eq line.0 (codes "restart") then number_of n Restart line.1 else None
 
 -- the event that is read of a line at n desks, where one is
 unfoldable pub event_of : ℕ → List ℕ → Option WorldEvent

@@ -3,14 +3,12 @@ use Rattle.std.specs.Prelude.{◌≡◌, ◌⊎◌, ℕ, Bool, true, false, ◌&
 use Rattle.std.specs.Prelude.{◌++◌, Option}
 use Rattle.std.specs.Io.KnownBytes.{Appends, IsAtEnd}
 use Rattle.learner.specs.declared.event.WorldEvent.{WorldEvent}
-use Rattle.hall.specs.world.WorldValues.{WorldValue, extended}
-use Rattle.lines.specs.Lines.{is_within, lines_read}
+use Rattle.hall.specs.{world.WorldValues.WorldValue, world.WorldValues.extended, Scripts.SpellsNone}
+use Rattle.lines.specs.{Lines.is_within, Lines.lines_read, declared.fault.RunFault.RunFault}
 use Rattle.lines.specs.Bytes.{AppendsPart, HasLeft, Sides}
-use Rattle.lines.specs.declared.fault.RunFault.{RunFault}
-use Rattle.lines.specs.declared.fault.RunFault.TheVariants as fault
-use Rattle.hall.specs.Scripts.{Spells, SpellsNone}
+use Rattle.hall.specs.{Scripts.Spells, model.Events.are_events, model.Events.events_of}
 use Rattle.hall.specs.Halls.{Run, RunFails, event_text, script_text, logs_text, run_of}
-use Rattle.hall.specs.model.Events.{are_events, events_of}
+use Rattle.lines.specs.declared.fault.RunFault.TheVariants as fault
 
 -- the line spells this event, which was done, and what is printed for it is after the rest
 pub record DoesLine (n : ℕ) (line : List ℕ) (old new : WorldValue) (before after : List ℕ) : Type 0
@@ -39,9 +37,7 @@ lines_text n lines = script_text n (events_of n lines)
 -- the text for an input
 abbrev pub hall_text : ℕ → List ℕ → List ℕ
 hall_text n input =
-    lines_text n (lines_read input)
-    ++
-    (if is_within input && are_events n (lines_read input)
+    lines_text n (lines_read input) ++ (if is_within input && are_events n (lines_read input)
     then logs_text n (events_of n (lines_read input)) else [])
 
 -- all lines were read and their events were done, and what is printed for them is written
@@ -69,14 +65,12 @@ DoesScript n world s =
 
 -- between these two sides, not all of them were, by this fault
 abbrev pub StopsScript : ℕ → Sides → RunFault → Type 0
-StopsScript n s fault =
-    (input : List ℕ) × HasLeft s.had input × StopsAmong fault (run_of n input s)
+StopsScript n s fault = (input : List ℕ) × HasLeft s.had input × StopsAmong fault (run_of n input s)
 
 -- what waited was written and this is the fault, or a write failed
 abbrev pub EndsBy : RunFault → RunFault → (old new : Option (List ℕ)) → List ℕ → Type 0
 EndsBy result why old new text =
-    ((result ≡ why) × Appends old new text)
-    ⊎ ((result ≡ fault.Write) × AppendsPart old new text)
+    ((result ≡ why) × Appends old new text) ⊎ ((result ≡ fault.Write) × AppendsPart old new text)
 
 -- a write failed, or memory ran out
 abbrev pub IsStopped : RunFault → Type 0

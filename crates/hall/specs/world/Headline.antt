@@ -3,14 +3,10 @@
 use Rattle.std.specs.Prelude.{ℕ, ◌≡◌, ◌≤◌, ◌<◌, ◌⊎◌, List, Some, slice_get, take, length}
 use Rattle.acceptor.specs.declared.entry.Entry.{Entry}
 use Rattle.texts.specs.declared.answer.Answer.{Answer}
-use Rattle.formats.specs.declared.events.Event.{Event}
-use Rattle.learner.specs.declared.event.WorldEvent.{WorldEvent}
-use Rattle.learner.specs.Laws.{IsPrefix}
+use Rattle.formats.specs.declared.{events.Event.Event, styles.SheetStyle.SheetStyle as Style}
+use Rattle.learner.specs.{declared.event.WorldEvent.WorldEvent, Laws.IsPrefix, Worlds.log_of}
 use Rattle.learner.specs.Submitted.{IsSubmitted}
-use Rattle.learner.specs.Worlds.{log_of}
-use Rattle.formats.specs.declared.styles.SheetStyle.{SheetStyle as Style}
-use Rattle.answers.specs.Answers.{told, sheet_at}
-use Rattle.answers.specs.declared.answers.IdState.TheVariants.{Done}
+use Rattle.answers.specs.{Answers.told, Answers.sheet_at, declared.answers.IdState.TheVariants.Done}
 
 -- the log of desk d after the first i of these events
 abbrev pub log_at : ℕ → List WorldEvent → ℕ → ℕ → List Entry
@@ -20,8 +16,7 @@ log_at n events i d = log_of n (take i events) d
 -- events:
 pub record Agreement (n : ℕ) (events : List WorldEvent) : Type 0 where
   -- of the two logs one is a prefix of the other
-  pub logs : (i j d k : ℕ)
-      → IsPrefix (log_at n events i d) (log_at n events j k)
+  pub logs : (i j d k : ℕ) → IsPrefix (log_at n events i d) (log_at n events j k)
       ⊎ IsPrefix (log_at n events j k) (log_at n events i d)
   -- every entry of a log was submitted before, by an event whose desk took it
   pub submitted : (i d pos : ℕ) (e : Entry) → slice_get (log_at n events i d) pos ≡ Some e

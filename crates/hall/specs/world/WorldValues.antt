@@ -1,20 +1,16 @@
 -- What a world is seen as: the number of its desks and the events that were done; and the refusal
 -- of the last (the project's own).
 use Rattle.std.specs.Prelude.{ℕ, if◌then◌else◌, List, [], ◌∷◌, ◌++◌, Option, Some, None, Result, Ok}
-use Rattle.std.specs.Prelude.{Err}
-use Rattle.std.specs.Option.{option_map}
+use Rattle.std.specs.{Prelude.Err, Option.option_map}
 use Rattle.proposer.specs.declared.fault.Refusal.{Refusal}
-use Rattle.learner.specs.declared.event.DeskEvent.{DeskEvent}
+use Rattle.learner.specs.{declared.event.DeskEvent.DeskEvent, Steps.Done, Steps.is_desk, Steps.step}
 use Rattle.learner.specs.declared.event.DeskEvent.TheVariants.{Submit, Start, Tick}
-use Rattle.learner.specs.declared.event.WorldEvent.{WorldEvent}
-use Rattle.learner.specs.declared.event.WorldEvent.TheVariants.{Submit as SubmitAt}
+use Rattle.learner.specs.declared.event.WorldEvent.{WorldEvent, TheVariants.Submit as SubmitAt}
 use Rattle.learner.specs.declared.event.WorldEvent.TheVariants.{Start as StartAt, Tick as TickAt}
 use Rattle.learner.specs.declared.event.WorldEvent.TheVariants.{Deliver as DeliverNth}
 use Rattle.learner.specs.declared.event.WorldEvent.TheVariants.{Restart as RestartAt}
-use Rattle.learner.specs.Steps.{Done, is_desk, step}
 use Rattle.learner.specs.Worlds.{World, new_world, happens}
-use Rattle.replica.specs.roles.Faults.{refused_as}
-use Rattle.replica.specs.declared.roles.fault.NodeFault.{NodeFault}
+use Rattle.replica.specs.{roles.Faults.refused_as, declared.roles.fault.NodeFault.NodeFault}
 
 -- this many desks, and the events that were done, in order
 pub record WorldValue : Type 0 where
@@ -31,8 +27,7 @@ refusal_of (Err why) = Some why
 
 -- why desk d refuses the event, where there is such a desk and it refuses
 abbrev pub refusal_at : ℕ → World → ℕ → DeskEvent → Option Refusal
-refusal_at n w d event =
-    if is_desk n d then refusal_of (step n d (w.desks d) event) else None
+refusal_at n w d event = if is_desk n d then refusal_of (step n d (w.desks d) event) else None
 
 -- why the event is refused, where it is; a delivery and a restart never are
 abbrev pub refusal : ℕ → World → WorldEvent → Option Refusal

@@ -1,22 +1,14 @@
 -- Options as they are built, step by step.
 use Rattle.std.proofs.Common.{◌≡◌, ◌+◌, ◌++◌, ◌∷◌, ◌&&◌, ◌∙◌, [], ap, arith, false, length, refl}
-use Rattle.std.proofs.Common.{true, not, Bool, Bor}
-use Rattle.std.proofs.Common.{List, map, max, ℕ, Option, None, Some, option_map, subst, sym}
-use Rattle.std.proofs.lemmas.Bool.{ne_eqb}
-use Rattle.std.proofs.lemmas.List.{length-append, map-append}
-use Rattle.std.specs.Prelude.{IsSomeAnd}
-use Rattle.clap.specs.Adds.{AddsConflicts, AddsRequirements}
-use Rattle.clap.specs.Walk.{is_empty, is_free_arg}
-use Rattle.clap.specs.Words.{AddsArg, Rule, Text, items_of, rule_of}
-use Rattle.clap.specs.declared.builder.arg.Arg.{Arg}
-use Rattle.clap.specs.declared.builder.arg.ArgPredicate.TheVariants.{IsPresent}
-use Rattle.clap.specs.declared.builder.command.Command.{Command}
+use Rattle.std.proofs.Common.{true, not, Bool, Bor, List, map, max, ℕ, Option, None, Some, subst}
+use Rattle.std.{proofs.Common.option_map, proofs.Common.sym, specs.Prelude.IsSomeAnd}
+use Rattle.std.proofs.lemmas.{Bool.ne_eqb, List.length-append, List.map-append}
+use Rattle.clap.specs.{Adds.AddsConflicts, Adds.AddsRequirements, Walk.is_empty, Walk.is_free_arg}
+use Rattle.clap.specs.Words.{Rule, Text, items_of, rule_of}
+use Rattle.clap.specs.declared.builder.arg.{Arg.Arg, ArgPredicate.TheVariants.IsPresent}
 use Rattle.clap.specs.declared.builder.range.ValueRange.{ValueRange}
-use Rattle.hall_file.specs.hall_options.Options.{AddsDesks, Described, IsOption, bound}
-use Rattle.hall_file.specs.hall_options.Options.{condition_of}
-use Rattle.hall_file.specs.hall_options.Options.{config_option, excluding, hall_option, key_option}
-use Rattle.hall_file.specs.hall_options.Options.{needing}
-use Rattle.hall_file.specs.hall_options.Options.{to_option, up_to_five, whenever_used}
+use Rattle.hall_file.specs.hall_options.Options.{Described, IsOption, bound, condition_of}
+use Rattle.hall_file.specs.hall_options.Options.{excluding, needing, up_to_five, whenever_used}
 
 never_empty : {X : Type 0} (xs : List X) (x : X) → is_empty (xs ++ x ∷ []) ≡ false
 never_empty xs x = ne_eqb (length (xs ++ x ∷ [])) 0 (λ none.
@@ -33,8 +25,7 @@ now_bound old new is free = is ∙ ap (λ f. record (rule_of old) { is_free = f 
 
 -- one more that it excludes
 pub excludes : (d : Described) (old new : Arg) (other : Bor Text) → IsOption d old
-    → AddsConflicts old new (other ∷ [])
-    → IsOption (excluding (d.excluded ++ other.now ∷ []) d) new
+    → AddsConflicts old new (other ∷ []) → IsOption (excluding (d.excluded ++ other.now ∷ []) d) new
 excludes d old new other is adds =
     let some : is_empty new.conflicts.items ≡ false =
     ap is_empty adds.1 ∙ never_empty old.conflicts.items other in
@@ -47,8 +38,7 @@ excludes d old new other is adds =
       name = ap (λ (a : Arg). map (λ t. t.now) (items_of a.val_names)) adds.0 ∙ is.name;
       help = ap (λ (a : Arg). option_map (λ t. t.now) a.help) adds.0 ∙ is.help;
       excluded =
-          ap (map (λ t. t.now)) adds.1
-          ∙ map-append (λ t. t.now) old.conflicts.items (other ∷ [])
+          ap (map (λ t. t.now)) adds.1 ∙ map-append (λ t. t.now) old.conflicts.items (other ∷ [])
           ∙ ap (λ xs. xs ++ other.now ∷ []) is.excluded;
       needed = ap (λ (a : Arg). map condition_of a.needs.items) adds.0 ∙ is.needed;
       local = ap (λ (a : Arg). a.global) adds.0 ∙ is.local;
@@ -62,8 +52,7 @@ needs d old new other is adds =
     let some : is_empty new.needs.items ≡ false =
     ap is_empty adds.1 ∙ never_empty old.needs.items (IsPresent, other) in
     let free : is_free_arg new ≡ false =
-    rw some
-    (ap (λ b. not new.exclusive && b) (and_false (is_empty new.conflicts.items))
+    rw some (ap (λ b. not new.exclusive && b) (and_false (is_empty new.conflicts.items))
     ∙ and_false (not new.exclusive)) in
     record {
       rule =
@@ -87,8 +76,7 @@ some_and (Some x) r h = ap (λ y. Some y) h
 
 -- it gets one to five values
 pub grows : (d : Described) (old new : Arg) (first last : ℕ) → IsOption d old
-    → first ≡ 1 → last ≡ 5 → new ≡ record old { num_vals = new.num_vals }
-    → IsSomeAnd new.num_vals
+    → first ≡ 1 → last ≡ 5 → new ≡ record old { num_vals = new.num_vals } → IsSomeAnd new.num_vals
     (λ r. r ≡ record { start_inclusive = first; end_inclusive = max last first })
     → IsOption (up_to_five d) new
 grows d old new first last is begins ends same given =
@@ -99,8 +87,7 @@ grows d old new first last is begins ends same given =
     some_and new.num_vals _ (subst (λ n. P 1 n) ends (subst (λ m. P m last) begins given)) in
     record {
       rule =
-          ap rule_of same
-          ∙ ap (λ range. record (rule_of old) { range = range }) range
+          ap rule_of same ∙ ap (λ range. record (rule_of old) { range = range }) range
           ∙ ap (λ (r : Rule). record r {
             range = Some (record { start_inclusive = 1; end_inclusive = 5 });
           }) is.rule;
@@ -109,22 +96,4 @@ grows d old new first last is begins ends same given =
       excluded = ap (λ (a : Arg). map (λ t. t.now) a.conflicts.items) same ∙ is.excluded;
       needed = ap (λ (a : Arg). map condition_of a.needs.items) same ∙ is.needed;
       local = ap (λ (a : Arg). a.global) same ∙ is.local;
-    }
-
--- four options in turn
-pub adds_desks : (old one two three new : Command) (config hall to key : Arg)
-    → IsOption config_option config → AddsArg old config one → IsOption hall_option hall
-    → AddsArg one hall two → IsOption to_option to → AddsArg two to three
-    → IsOption key_option key → AddsArg three key new → AddsDesks old new
-adds_desks old one two three new config hall to key is_config first is_hall second is_to third
-    is_key fourth = record {
-      config = config;
-      hall = hall;
-      to = to;
-      key = key;
-      is_config = is_config;
-      is_hall = is_hall;
-      is_to = is_to;
-      is_key = is_key;
-      added = (one, first, (two, second, (three, third, (new, fourth, refl))));
     }

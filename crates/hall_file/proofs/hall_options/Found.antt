@@ -1,10 +1,8 @@
 -- What options name.
-use Rattle.std.proofs.Common.{◌≡◌, ap, sym, false, ℕ, List, Bor, Option, None, Some, codes}
-use Rattle.std.proofs.Common.{is_some, option_map}
-use Rattle.clap.specs.Words.{Text, first_value}
-use Rattle.clap.specs.declared.parser.matches.Found.{Found}
-use Rattle.hall_file.specs.Halls.{Says}
-use Rattle.hall_file.specs.declared.hall_file.HallFile.{HallFile}
+use Rattle.std.proofs.Common.{◌≡◌, ap, sym, false, ℕ, List, Bor, Option, None, Some, codes, is_some}
+use Rattle.std.proofs.Common.{option_map}
+use Rattle.clap.specs.{Words.Text, Words.first_value, declared.parser.matches.Found.Found}
+use Rattle.hall_file.specs.{Halls.Says, declared.hall_file.HallFile.HallFile}
 use Rattle.hall_file.specs.hall_options.Found.{IsHallOf, IsOfFile, is_given}
 use Rattle.hall_file.specs.declared.hall_options.finding.FoundHall.{FoundHall}
 

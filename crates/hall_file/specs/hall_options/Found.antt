@@ -3,11 +3,9 @@ use Rattle.std.specs.Prelude.{◌≡◌, ◌⊎◌, ◌≤◌, ◌||◌, ℕ, Bo
 use Rattle.std.specs.Prelude.{Option, None, Some, is_some, length, option_map, unwrap_or, vec_len}
 use Rattle.clap.specs.Words.{Text, first_value, matched_of, raw_values}
 use Rattle.clap.specs.declared.parser.matches.Found.{Found}
-use Rattle.hall_file.specs.Halls.{Says, key_text}
-use Rattle.hall_file.specs.Opening.{IsOfPath}
-use Rattle.hall_file.specs.declared.hall_file.HallFile.{HallFile}
+use Rattle.hall_file.specs.{Halls.Says, Opening.IsOfPath, declared.hall_file.HallFile.HallFile}
+use Rattle.hall_file.specs.{Halls.key_text, declared.hall_options.finding.FoundHall.FoundHall}
 use Rattle.keys.specs.key_file.KeyFiles.{IsSpelt}
-use Rattle.hall_file.specs.declared.hall_options.finding.FoundHall.{FoundHall}
 use Rattle.hall_file.specs.declared.hall_options.mistakes.Mistake.{Mistake}
 use Rattle.hall_file.specs.declared.hall_options.mistakes.Mistake.TheVariants as mistake
 

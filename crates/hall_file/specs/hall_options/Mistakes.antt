@@ -1,10 +1,9 @@
 -- Exit statuses (the project's own).
-use Rattle.std.specs.Prelude.{ℕ}
-use Rattle.std.specs.declared.io.ErrorKind.{ErrorKind}
-use Rattle.std.specs.declared.io.ErrorKind.TheVariants as kind
+use Rattle.std.specs.{Prelude.ℕ, declared.io.ErrorKind.ErrorKind}
 use Rattle.keys.specs.declared.key_file.fault.KeyFileFault.{KeyFileFault}
-use Rattle.keys.specs.declared.key_file.fault.KeyFileFault.TheVariants as key_fault
 use Rattle.hall_file.specs.declared.hall_options.mistakes.Mistake.{Mistake}
+use Rattle.std.specs.declared.io.ErrorKind.TheVariants as kind
+use Rattle.keys.specs.declared.key_file.fault.KeyFileFault.TheVariants as key_fault
 use Rattle.hall_file.specs.declared.hall_options.mistakes.Mistake.TheVariants as mistake
 
 -- 3 for a file that gives no key, 5 for memory

@@ -3,12 +3,9 @@
 use Rattle.std.specs.Prelude.{◌≡◌, ◌∷◌, [], false, List, codes, map, option_map, Some}
 use Rattle.std.specs.Borrow.{Bor}
 use Rattle.clap.specs.Words.{AddsArg, AddsInTurn, Rule, Text, items_of, new_rule, rule_of}
-use Rattle.clap.specs.declared.builder.ArgAction.TheVariants.{Set}
-use Rattle.clap.specs.declared.builder.arg.Arg.{Arg}
-use Rattle.clap.specs.declared.builder.arg.ArgPredicate.{ArgPredicate}
-use Rattle.clap.specs.declared.builder.arg.ArgPredicate.TheVariants.{IsPresent}
-use Rattle.clap.specs.declared.builder.command.Command.{Command}
-use Rattle.clap.specs.declared.builder.value_parser.ValueParser.{ValueParser}
+use Rattle.clap.specs.declared.builder.{ArgAction.TheVariants.Set, command.Command.Command}
+use Rattle.clap.specs.declared.builder.{arg.Arg.Arg, value_parser.ValueParser.ValueParser}
+use Rattle.clap.specs.declared.builder.arg.ArgPredicate.{ArgPredicate, TheVariants.IsPresent}
 use Rattle.clap.specs.declared.builder.value_parser.ValueParser.TheVariants as parser
 
 -- what an option is: how it is read, what help calls its value and says of it, which others cannot
@@ -78,24 +75,21 @@ pub record IsOption (d : Described) (a : Arg) : Type 0 where
 -- a hall's file
 abbrev pub config_option : Described
 config_option =
-    excluding (codes "hall" ∷ codes "to" ∷ [])
-    (plain_option (codes "config") (codes "FILE")
+    excluding (codes "hall" ∷ codes "to" ∷ []) (plain_option (codes "config") (codes "FILE")
     (codes "The file that describes the hall; without it and --hall it is hall.toml")
     parser.String)
 
 -- the hall's number, a whole number of four bytes
 abbrev pub hall_option : Described
 hall_option =
-    needing (codes "to" ∷ [])
-    (plain_option (codes "hall") (codes "H")
+    needing (codes "to" ∷ []) (plain_option (codes "hall") (codes "H")
     (codes "The hall's number, 0 to 4294967295, where no file describes it")
     (parser.Unsigned 0 4294967295))
 
 -- the addresses of its desks
 abbrev pub to_option : Described
 to_option =
-    needing (codes "hall" ∷ [])
-    (up_to_five (plain_option (codes "to") (codes "ADDR")
+    needing (codes "hall" ∷ []) (up_to_five (plain_option (codes "to") (codes "ADDR")
     (codes "The addresses of the desks, one to five, desk 1 first, with --hall")
     parser.String))
 

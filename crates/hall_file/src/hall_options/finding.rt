@@ -1,13 +1,12 @@
 //! What the options name.
 
-ghost use Rattle.std.specs.Prelude.{◌≡◌, ◌++◌, ◌∷◌, ◌||◌, [], List, ℕ, None, Ok, Some, true};
-ghost use Rattle.std.specs.Prelude.{codes, is_some, vec_len, IfErr, IfOk, OnOk};
+ghost use Rattle.std.specs.Prelude.{◌≡◌, ◌++◌, ◌∷◌, ◌||◌, [], List, ℕ, None, Ok, Some, true, codes};
+ghost use Rattle.std.specs.Prelude.{is_some, vec_len, IfErr, IfOk, OnOk};
 ghost use Rattle.clap.specs.Words.{found_of};
-ghost use Rattle.hall_file.specs.Halls.{Says, key_text};
+ghost use Rattle.hall_file.specs.{Halls.Says, Halls.key_text, hall_options.Found.IsMistakeOfDesk};
 ghost use Rattle.hall_file.specs.hall_options.Found.{HasNumber, IsGiven, IsHallMistake, IsHallOf};
-ghost use Rattle.hall_file.specs.hall_options.Found.{IsKeyOf};
-ghost use Rattle.hall_file.specs.hall_options.Found.{IsMistakeIn, IsMistakeOfDesk, IsMistakeOfFile};
-ghost use Rattle.hall_file.specs.hall_options.Found.{IsMistakeOfKey, IsUnknown, count_of, is_given};
+ghost use Rattle.hall_file.specs.hall_options.Found.{IsKeyOf, IsMistakeIn, count_of, is_given};
+ghost use Rattle.hall_file.specs.hall_options.Found.{IsMistakeOfFile, IsMistakeOfKey, IsUnknown};
 ghost use Rattle.hall_file.specs.declared.hall_options.mistakes.Mistake.TheVariants as wrong;
 
 use crate::hall_options::mistakes::Mistake;

@@ -1,9 +1,8 @@
 //! The options, as the parser knows them.
 
 ghost use Rattle.std.specs.Prelude.{IfOk};
-ghost use Rattle.hall_file.specs.hall_options.Options.{AddsDesks, IsOption, config_option};
-ghost use Rattle.hall_file.specs.hall_options.Options.{hall_option};
-ghost use Rattle.hall_file.specs.hall_options.Options.{key_option, plain_option, to_option};
+ghost use Rattle.hall_file.specs.hall_options.Options.{AddsDesks, IsOption, key_option, to_option};
+ghost use Rattle.hall_file.specs.hall_options.Options.{config_option, hall_option, plain_option};
 
 use clap::builder::ValueParser;
 use clap::{Arg, ArgAction, Command};

@@ -1,14 +1,12 @@
 -- A mirror that is given what desks of a hall answer.
-use Rattle.std.proofs.Common.{◌≡◌, ◌⊎◌, inl, inr, refl, sym, ap, subst, ◌∙◌, ℕ, zero, suc}
-use Rattle.std.proofs.Common.{List, [], ◌∷◌, Some, slice_get}
+use Rattle.std.proofs.Common.{◌≡◌, ◌⊎◌, inl, inr, refl, sym, ap, subst, ℕ, zero, suc, List, [], ◌∷◌}
+use Rattle.std.proofs.Common.{Some, slice_get}
 use Rattle.acceptor.specs.declared.entry.Entry.{Entry}
-use Rattle.learner.proofs.Evolves.{prefix_trans}
-use Rattle.learner.specs.Laws.{IsPrefix}
-use Rattle.learner.specs.Steps.{IsDesk}
+use Rattle.learner.{proofs.Evolves.prefix_trans, specs.Laws.IsPrefix, specs.Steps.IsDesk}
 use Rattle.store.specs.declared.keeper.Keeper.{Ghosts}
-use Rattle.mirror.specs.Fronts.{Telling, TakesAs, TakesAll, LogsOfAgree, BeginsOne}
-use Rattle.mirror.specs.Fronts.{NoneDiffers, MirrorsHoldFronts, FrontsPrintAlike}
-use Rattle.hall_laws.specs.Copying.{HallCopiesAreOfLogs}
+use Rattle.mirror.specs.Fronts.{Telling, TakesAll, LogsOfAgree, BeginsOne, NoneDiffers}
+use Rattle.mirror.specs.Fronts.{MirrorsHoldFronts, FrontsPrintAlike}
+use Rattle.hall_laws.{specs.Copying.HallCopiesAreOfLogs, proofs.HallCopies.fronts_agree}
 use Rattle.hall_laws.specs.HallRuns.{Hall, HallStep, IsHallRun, hall_log, HallLogsAgree}
 use Rattle.hall_laws.specs.mirrors.HallMirrors.{Mirrored, MirrorsHall, BeginsMirrored}
 use Rattle.hall_laws.specs.mirrors.HallMirrors.{HallMirrorsHoldFronts, HallMirrorsPrintAlike}
@@ -28,16 +26,11 @@ as_tellings h ss (one ∷ more) = as_telling h ss one ∷ as_tellings h ss more
 
 takes_all : {K : Type 0} (k : Ghosts K) → HallCopiesAreOfLogs k → (n : ℕ) (h : Hall K)
     (ss : List (HallStep K)) (held : List Entry) (all : List Mirrored) (after : List Entry)
-    → MirrorsHall k n h ss held all after
-    → TakesAll held (as_tellings h ss all) after
+    → MirrorsHall k n h ss held all after → TakesAll held (as_tellings h ss all) after
 takes_all k copies n h ss held [] after is = is
 takes_all k copies n h ss held (one ∷ more) after is =
-    let copy = copies h ss one.given.at one.given.desk one.given.copy is.2 in (
-      is.0,
-      subst (λ (es : List Entry). TakesAs held one.given.copy.position es one.outcome is.0) copy.1
-          is.3,
-      takes_all k copies n h ss is.0 more after is.4,
-    )
+    let copy = copies h ss one.given.at one.given.desk one.given.copy is.2 in
+    (is.0, rw copy.1 at is.3, takes_all k copies n h ss is.0 more after is.4)
 
 -- each of the answers is of a desk of the hall
 record IsOne {K : Type 0} (n : ℕ) (h : Hall K) (ss : List (HallStep K)) (all : List Mirrored)
@@ -80,8 +73,7 @@ tellings_agree : {K : Type 0} (k : Ghosts K) → HallLogsAgree k → (n : ℕ) (
 tellings_agree k agree n h ss all after run is i j one other here there =
     let a = one_told k n h ss [] all after is i one here in
     let b = one_told k n h ss [] all after is j other there in
-    subst (λ (t : Telling). IsPrefix t.log other.log ⊎ IsPrefix other.log t.log) a.is
-    (subst
+    subst (λ (t : Telling). IsPrefix t.log other.log ⊎ IsPrefix other.log t.log) a.is (subst
     (λ (t : Telling).
     IsPrefix (as_telling h ss a.one).log t.log ⊎ IsPrefix t.log (as_telling h ss a.one).log) b.is
     (agree n h ss a.one.given.at b.one.given.at a.one.given.desk b.one.given.desk run a.ours
@@ -111,8 +103,7 @@ begins_ours k n h ss all after is b =
 -- what the mirror holds, and that none was found to differ
 both : {K : Type 0} (k : Ghosts K) → HallCopiesAreOfLogs k → HallLogsAgree k → MirrorsHoldFronts
     → (n : ℕ) (h : Hall K) (ss : List (HallStep K)) (all : List Mirrored) (after : List Entry)
-    → IsHallRun k n h ss → MirrorsHall k n h ss [] all after
-    → NoneDiffers (as_tellings h ss all)
+    → IsHallRun k n h ss → MirrorsHall k n h ss [] all after → NoneDiffers (as_tellings h ss all)
     × ((after ≡ []) ⊎ BeginsOne (as_tellings h ss all) after)
 both k copies agree fronts n h ss all after run is =
     fronts (as_tellings h ss all) after (tellings_agree k agree n h ss all after run is)
@@ -132,33 +123,9 @@ hall_mirrors_hold_fronts k copies agree fronts n h ss all after run is =
 
 -- ---- what it prints
 
-tail_prefix : (x z : Entry) (xs zs : List Entry) → IsPrefix (x ∷ xs) (z ∷ zs) → IsPrefix xs zs
-tail_prefix x z xs zs p = let h = p.1 in (p.0, cc)
-
-same_head : (x z : Entry) (xs zs : List Entry) → IsPrefix (x ∷ xs) (z ∷ zs) → x ≡ z
-same_head x z xs zs p = let h = p.1 in cc
-
-with_head : (x z : Entry) (xs zs : List Entry) → x ≡ z → IsPrefix xs zs
-    → IsPrefix (x ∷ xs) (z ∷ zs)
-with_head x z xs zs same p = let h = p.1 in (p.0, cc)
-
--- two fronts of one list
-fronts_agree : (xs ys zs : List Entry) → IsPrefix xs zs → IsPrefix ys zs
-    → IsPrefix xs ys ⊎ IsPrefix ys xs
-fronts_agree [] ys zs p q = inl (ys, refl)
-fronts_agree (x ∷ xs) [] zs p q = inr (x ∷ xs, refl)
-fronts_agree (x ∷ xs) (y ∷ ys) [] p q = absurd (let h = p.1 in cc)
-fronts_agree (x ∷ xs) (y ∷ ys) (z ∷ zs) p q =
-    let same : x ≡ y = same_head x z xs zs p ∙ sym (same_head y z ys zs q) in
-    elim (fronts_agree xs ys zs (tail_prefix x z xs zs p) (tail_prefix y z ys zs q)) [
-      | inl r ↦ inl (with_head x y xs ys same r)
-      | inr r ↦ inr (with_head y x ys xs (sym same) r)
-    ]
-
 -- what begins one log, and another log
 agree_with : (after mine its : List Entry) → IsPrefix after mine
-    → IsPrefix mine its ⊎ IsPrefix its mine
-    → IsPrefix after its ⊎ IsPrefix its after
+    → IsPrefix mine its ⊎ IsPrefix its mine → IsPrefix after its ⊎ IsPrefix its after
 agree_with after mine its p (inl q) = inl (prefix_trans after mine its p q)
 agree_with after mine its p (inr q) = fronts_agree after its mine p q
 
@@ -173,9 +140,7 @@ hall_mirrors_print_alike k copies agree fronts alike n h ss all after i d style 
           inl (subst (λ (es : List Entry). IsPrefix es its) (sym none) (its, refl))
       | inr b ↦
           let mine = begins_ours k n h ss all after is b in
-          agree_with after
-          (hall_log h ss mine.begins.one.given.at mine.begins.one.given.desk) its
+          agree_with after (hall_log h ss mine.begins.one.given.at mine.begins.one.given.desk) its
           mine.begins.begins
           (agree n h ss mine.begins.one.given.at i mine.begins.one.given.desk d run mine.ours ours)
-    ])
-    here there
+    ]) here there

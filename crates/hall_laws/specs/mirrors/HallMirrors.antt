@@ -2,14 +2,11 @@
 use Rattle.std.specs.Prelude.{ℕ, ◌≡◌, ◌≤◌, ◌⊎◌, List, [], ◌∷◌, length, Option, Some, slice_get}
 use Rattle.acceptor.specs.declared.entry.Entry.{Entry}
 use Rattle.answers.specs.Answers.{sheet_at}
-use Rattle.formats.specs.declared.events.Event.{Event}
-use Rattle.learner.specs.Laws.{IsPrefix}
-use Rattle.learner.specs.Steps.{IsDesk}
-use Rattle.formats.specs.declared.styles.SheetStyle.{SheetStyle as Style}
+use Rattle.formats.specs.declared.{events.Event.Event, styles.SheetStyle.SheetStyle as Style}
+use Rattle.learner.specs.{Laws.IsPrefix, Steps.IsDesk}
 use Rattle.store.specs.declared.keeper.Keeper.{Ghosts}
 use Rattle.mirror.specs.Fronts.{TakesAs}
-use Rattle.mirror.specs.declared.mirror.MirrorGrowth.{MirrorGrowth}
-use Rattle.mirror.specs.declared.mirror.MirrorGrowth.TheVariants.{Differs}
+use Rattle.mirror.specs.declared.mirror.MirrorGrowth.{MirrorGrowth, TheVariants.Differs}
 use Rattle.hall_laws.specs.Copying.{AnswersCopy, Given}
 use Rattle.hall_laws.specs.HallRuns.{Hall, HallStep, IsHallRun, hall_log}
 
@@ -42,8 +39,7 @@ HallMirrorsHoldFronts {K} k =
     (n : ℕ) (h : Hall K) (steps : List (HallStep K)) (all : List Mirrored) (after : List Entry)
     → IsHallRun k n h steps → MirrorsHall k n h steps [] all after
     → ((place : ℕ) (one : Mirrored) (at : ℕ) → slice_get all place ≡ Some one
-    → one.outcome ≡ Some (Differs at) → ⊥)
-    × ((after ≡ []) ⊎ BeginsMirrored h steps all after)
+    → one.outcome ≡ Some (Differs at) → ⊥) × ((after ≡ []) ⊎ BeginsMirrored h steps all after)
 
 abbrev pub HallMirrorsPrintAlike : {K : Type 0} → Ghosts K → Type 0
 HallMirrorsPrintAlike {K} k =

@@ -6,10 +6,9 @@ use Rattle.std.specs.Prelude.{◌↔◌, IfErr, IfOk, IfSome, IsTrue, OnOk, opti
 use Rattle.std.proofs.lemmas.List.{length-take, take_all, length-append, length-replicate}
 use Rattle.std.proofs.lemmas.List.{take-append-drop, append_cancel_right}
 use Rattle.hex.proofs.HexLemmas.{decode_of-ok}
-use Rattle.keys.specs.Keys.{digits_of}
+use Rattle.keys.specs.{Keys.digits_of, declared.key_file.fault.KeyFileFault.KeyFileFault}
 use Rattle.keys.specs.key_file.KeyFiles.{HasKey, HasMark, HasReturn, IsKeyText, Refuses}
 use Rattle.keys.specs.key_file.KeyFiles.{RefusesBytes, RefusesHad, Spells}
-use Rattle.keys.specs.declared.key_file.fault.KeyFileFault.{KeyFileFault}
 use Rattle.keys.specs.declared.key_file.fault.KeyFileFault.TheVariants as key
 
 shorter : (b : Bool) (t : List ℕ)
@@ -95,11 +94,7 @@ all_refused all read key.NoKey front why = (
   λ mark. why.1 (subst HasMark (sym front) (front_marked all mark)),
   λ had. why.2 (subst HasReturn (sym (front ∙ all_short all (return_length all had))) had),
 )
-all_refused all read key.NotThere front why = why
-all_refused all read key.Unreadable front why = why
-all_refused all read key.NotFile front why = why
-all_refused all read key.Open front why = why
-all_refused all read key.NoMemory front why = why
+all_refused all read _ front why = why
 
 pub refused : (had : Option (List ℕ)) (read : List ℕ) (e : KeyFileFault) → IsRead had read
     → RefusesBytes read e → RefusesHad had e

@@ -1,13 +1,9 @@
 -- The file of a hall's key (the project's own).
-use Rattle.std.specs.Prelude.{◌≡◌, ◌≢◌, ◌⊎◌, ℕ, List, [], ◌∷◌, ◌++◌, length, Option, Some}
-use Rattle.std.specs.Prelude.{None, Ok, bit_and, replicate}
-use Rattle.std.specs.List.{AllPass}
-use Rattle.std.specs.Fs.{IsFile, file_type, metadata_mode}
-use Rattle.std.specs.Io.KnownBytes.{Appends}
-use Rattle.std.specs.declared.fs.attrs.Metadata.{Metadata}
+use Rattle.std.specs.Prelude.{◌≡◌, ◌≢◌, ◌⊎◌, ℕ, List, [], ◌∷◌, ◌++◌, length, Option, Some, None, Ok}
+use Rattle.std.specs.{Prelude.bit_and, Prelude.replicate, Fs.IsFile, Fs.file_type, Fs.metadata_mode}
+use Rattle.std.specs.{List.AllPass, Io.KnownBytes.Appends, declared.fs.attrs.Metadata.Metadata}
 use Rattle.hex.specs.Hex.{decode_of, encode_lower, is_hex_digit}
-use Rattle.keys.specs.Keys.{digits_of}
-use Rattle.keys.specs.declared.key_file.fault.KeyFileFault.{KeyFileFault}
+use Rattle.keys.specs.{Keys.digits_of, declared.key_file.fault.KeyFileFault.KeyFileFault}
 use Rattle.keys.specs.declared.key_file.fault.KeyFileFault.TheVariants.{NotThere, Unreadable}
 use Rattle.keys.specs.declared.key_file.fault.KeyFileFault.TheVariants.{NotFile, Open, Mark, Return}
 use Rattle.keys.specs.declared.key_file.fault.KeyFileFault.TheVariants.{Zeros, NoKey, NoMemory}

@@ -1,9 +1,7 @@
 -- What a log keeps beside its entries: where each id is first, and the room for more.
 use Rattle.std.specs.Prelude.{ℕ, ◌≡◌, ◌≤◌, ◌+◌, nat_eq, vec_len, vec_capacity}
-use Rattle.std.specs.declared.hash.FoldHasher.{FoldHasher}
-use Rattle.std.specs.declared.hash.BuildHasherDefault.{BuildHasherDefault}
-use Rattle.std.specs.HashMap.{get, spare, HashMap}
-use Rattle.std.specs.Global.{Vec}
+use Rattle.std.specs.declared.hash.{FoldHasher.FoldHasher, BuildHasherDefault.BuildHasherDefault}
+use Rattle.std.specs.{HashMap.get, HashMap.spare, HashMap.HashMap, Global.Vec}
 use Rattle.acceptor.specs.declared.entry.Entry.{Entry}
 use Rattle.learner.specs.Logs.{position_of}
 

@@ -1,18 +1,14 @@
 -- The commands of lines that are read one after the other.
 use Rattle.std.proofs.Common.{◌≡◌, ℕ, ◌+◌, Bool, true, false, List, [], ◌∷◌, ◌++◌, length, Option}
-use Rattle.std.proofs.Common.{refl, sym, ap, ◌∙◌, append_assoc, append-nil, arith}
-use Rattle.std.proofs.Common.{length-append, ◌≤◌, ◌&&◌, nat_le, if◌then◌else◌}
-use Rattle.std.specs.Prelude.{Ok}
-use Rattle.std.proofs.lemmas.Bool.{leb-true}
-use Rattle.std.specs.List.{list_all}
+use Rattle.std.proofs.Common.{refl, sym, ap, ◌∙◌, append_assoc, append-nil, arith, length-append}
+use Rattle.std.proofs.Common.{◌≤◌, ◌&&◌, nat_le, if◌then◌else◌}
+use Rattle.std.{specs.Prelude.Ok, proofs.lemmas.Bool.leb-true, specs.List.list_all}
 use Rattle.lines.specs.Lines.{is_within, lines_of, most_bytes, most_in_line, most_lines}
 use Rattle.lines.specs.Reading.{Reading, GivesLine, Gives}
 use Rattle.lines.specs.command_file.Commands.{Numbered, command_in, commands_from, is_left_out}
-use Rattle.lines.specs.command_file.Commands.{numbered}
-use Rattle.lines.specs.command_file.Commands.{text_of}
+use Rattle.lines.specs.command_file.Commands.{numbered, text_of}
 
-from_more : (n : ℕ) (lines : List (List ℕ)) (line : List ℕ)
-    → commands_from n (lines ++ line ∷ [])
+from_more : (n : ℕ) (lines : List (List ℕ)) (line : List ℕ) → commands_from n (lines ++ line ∷ [])
     ≡ commands_from n lines ++ command_in (n + length lines) (text_of (n + length lines) line)
 from_more n [] line =
     let none : List (List ℕ) = [] in
@@ -20,11 +16,9 @@ from_more n [] line =
     append-nil (command_in n (text_of n line)) ∙ ap (λ m. command_in m (text_of m line)) here
 from_more n (l ∷ lines) line =
     let here : n + 1 + length lines ≡ n + length (l ∷ lines) = omega arith in
-    ap (λ x. command_in n (text_of n l) ++ x)
-    (from_more (n + 1) lines line
+    ap (λ x. command_in n (text_of n l) ++ x) (from_more (n + 1) lines line
     ∙ ap (λ m. commands_from (n + 1) lines ++ command_in m (text_of m line)) here)
-    ∙ sym
-    (append_assoc (command_in n (text_of n l)) (commands_from (n + 1) lines)
+    ∙ sym (append_assoc (command_in n (text_of n l)) (commands_from (n + 1) lines)
     (command_in (n + length (l ∷ lines)) (text_of (n + length (l ∷ lines)) line)))
 
 pub gives_true : (t : Bool) (p : Reading) (line given : List ℕ) (start now : Option (List ℕ))

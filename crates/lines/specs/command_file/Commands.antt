@@ -5,8 +5,7 @@ use Rattle.std.specs.Prelude.{◌++◌, length, take, drop, Option, nat_eq}
 use Rattle.std.specs.List.{starts_with, ends_with}
 use Rattle.std.specs.Io.KnownBytes.{Consumes, IsAtEnd}
 use Rattle.lines.specs.Lines.{lines_of, is_within}
-use Rattle.lines.specs.Reading.{GivesFault}
-use Rattle.lines.specs.declared.fault.RunFault.{RunFault}
+use Rattle.lines.specs.{Reading.GivesFault, declared.fault.RunFault.RunFault}
 
 -- a command of an input, as clauses see it: the number of its line, from 1 on, and its text
 pub record Numbered : Type 0 where

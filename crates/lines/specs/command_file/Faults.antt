@@ -1,20 +1,16 @@
 -- What is wrong with a line that is no command, in words (the project's own).
-use Rattle.std.specs.Prelude.{ℕ, ◌-◌, Bool, false, ◌==◌, ◌&&◌, ◌||◌, nat_lt, nat_le, not, zero}
-use Rattle.std.specs.Prelude.{suc, if◌then◌else◌, List, [], ◌∷◌, ◌++◌, length, take, drop, map}
-use Rattle.std.specs.Prelude.{codes, decimal, slice_index, Option, None, Some}
-use Rattle.std.specs.Prelude.{option_map, Result, Ok, Err, bytes_eq}
-use Rattle.std.specs.List.{list_any, slice_split}
-use Rattle.std.specs.Option.{option_and_then}
+use Rattle.std.specs.Prelude.{ℕ, ◌-◌, Bool, false, ◌==◌, ◌&&◌, ◌||◌, nat_lt, nat_le, not, zero, suc}
+use Rattle.std.specs.Prelude.{if◌then◌else◌, List, [], ◌∷◌, ◌++◌, length, take, drop, map, codes}
+use Rattle.std.specs.Prelude.{decimal, slice_index, Option, None, Some, option_map, Result, Ok, Err}
+use Rattle.std.specs.{Prelude.bytes_eq, List.list_any, List.slice_split, Option.option_and_then}
 use Rattle.texts.specs.Fields.{cut, cut_remark}
-use Rattle.texts.specs.Reading.{command_of}
-use Rattle.texts.specs.declared.command.RemarkedCommand.{RemarkedCommand}
-use Rattle.texts.specs.declared.reading.CommandFault.{CommandFault}
-use Rattle.texts.specs.declared.reading.CommandFault.TheVariants as fault
+use Rattle.texts.specs.{Reading.command_of, declared.reading.CommandFault.CommandFault}
+use Rattle.texts.specs.declared.{command.RemarkedCommand.RemarkedCommand, table.FieldKind.FieldKind}
 use Rattle.lines.specs.command_file.Commands.{Numbered}
 use Rattle.texts.specs.Table.{is_rest, kind_at, row_named, takes_remark_in}
-use Rattle.texts.specs.declared.table.FieldKind.{FieldKind}
-use Rattle.texts.specs.declared.table.FieldKind.TheVariants as kind
 use Rattle.lines.specs.command_file.FieldWords.{field_form, field_name, is_now, verb}
+use Rattle.texts.specs.declared.reading.CommandFault.TheVariants as fault
+use Rattle.texts.specs.declared.table.FieldKind.TheVariants as kind
 
 -- ---- what is shown of a text
 

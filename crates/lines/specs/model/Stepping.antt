@@ -2,8 +2,7 @@
 use Rattle.std.specs.Prelude.{◌≡◌, ◌≢◌, ◌<◌, ◌≤◌, ◌+◌, ℕ, slice_index, Bool, true, false, not}
 use Rattle.std.specs.Prelude.{nat_lt, List, [], ◌∷◌, ◌++◌, length, Option, MatchOption}
 use Rattle.std.specs.Io.KnownBytes.{Consumes, IsAtEnd}
-use Rattle.lines.specs.Lines.{most_bytes, most_lines, most_in_line}
-use Rattle.lines.specs.Reading.{Reading}
+use Rattle.lines.specs.{Lines.most_bytes, Lines.most_lines, Lines.most_in_line, Reading.Reading}
 
 -- one of the bytes that were read was taken, or there was none
 pub record TakesHeld (old new : Reading) (byte : ℕ) : Type 0 where

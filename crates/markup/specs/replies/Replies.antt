@@ -1,15 +1,11 @@
 -- The answer to a request for a page (the project's own).
 use Rattle.std.specs.Prelude.{ℕ, ◌||◌, Bool, true, false, List, [], ◌∷◌, Option, None, Some, codes}
 use Rattle.std.specs.Str.{bytes_eq}
-use Rattle.http.specs.declared.request.Request.{Request}
-use Rattle.http.specs.Request.{head_of}
+use Rattle.http.specs.{declared.request.Request.Request, Request.head_of}
 use Rattle.http1.specs.Fields.{Header}
-use Rattle.http_header.specs.FieldValue.{FieldValue}
-use Rattle.http_header.specs.HeaderMap.{get_all}
-use Rattle.http_server.specs.declared.response.Response.{Response}
-use Rattle.http_server.specs.Response.{IsResponse}
-use Rattle.markup.specs.declared.replies.page.Page.{Page}
-use Rattle.markup.specs.replies.Tags.{is_fresh}
+use Rattle.http_header.specs.{FieldValue.FieldValue, HeaderMap.get_all}
+use Rattle.http_server.specs.{declared.response.Response.Response, Response.IsResponse}
+use Rattle.markup.specs.{declared.replies.page.Page.Page, replies.Tags.is_fresh}
 
 abbrev pub is_read : List ℕ → Bool
 is_read method = bytes_eq method (codes "GET") || bytes_eq method (codes "HEAD")

@@ -1,16 +1,13 @@
 -- What is asked in the parts of a step.
-use Rattle.std.specs.Prelude.{◌≡◌, ◌⊎◌, ℕ, List, [], ◌∷◌, ◌++◌, length, slice_index_or}
-use Rattle.std.specs.Prelude.{Option, None, Some}
+use Rattle.std.specs.Prelude.{◌≡◌, ◌⊎◌, ℕ, List, [], ◌∷◌, ◌++◌, length, slice_index_or, Option}
+use Rattle.std.specs.{Prelude.None, Prelude.Some, List.AllByRecursion}
 use Rattle.guarded.specs.LockedConnections.{LockedConnectionOf}
 use Rattle.multiplex.specs.Musts.{IsMove, IsWatched, IsWoken}
 use Rattle.answers.specs.Seen.{Seen}
-use Rattle.std.specs.List.{AllByRecursion}
 use Rattle.store.specs.declared.home.Home.{Home}
 use Rattle.polled.specs.Requests.{Request, Reading, Writing, Closing}
-use Rattle.polled.specs.declared.answers.ReadOutcome.{ReadOutcome}
-use Rattle.polled.specs.declared.answers.WriteOutcome.{WriteOutcome}
-use Rattle.multiplex.specs.declared.ends.EndReason.{EndReason}
-use Rattle.multiplex.specs.declared.table.Guest.{Guest}
+use Rattle.polled.specs.declared.answers.{ReadOutcome.ReadOutcome, WriteOutcome.WriteOutcome}
+use Rattle.multiplex.specs.declared.{ends.EndReason.EndReason, table.Guest.Guest}
 
 -- one thing alone is asked
 abbrev pub Offers : ℕ → List ℕ → List Request → Type 0
@@ -25,8 +22,7 @@ AsksMove k c asked = IsMove k c asked
 -- it is asked first, and then anything
 abbrev pub BeginsWithMove : ℕ → LockedConnectionOf → List Request → Type 0
 BeginsWithMove k c asked =
-    (first : List Request) × IsMove k c first
-    × ((more : List Request) × (asked ≡ first ++ more))
+    (first : List Request) × IsMove k c first × ((more : List Request) × (asked ≡ first ++ more))
 
 -- anything
 abbrev pub AsksSome : List Request → Type 0

@@ -1,16 +1,12 @@
 -- Places in the list of guests connections.
 use Rattle.std.specs.Prelude.{◌≡◌, ◌≤◌, ◌<◌, ℕ, Bool, ◌-◌, ◌==◌, ltb, List, length, slice_index_or}
-use Rattle.std.specs.Prelude.{Option, None, Some, take}
-use Rattle.std.specs.List.{AllByRecursion}
+use Rattle.std.specs.{Prelude.Option, Prelude.None, Prelude.Some, Prelude.take, List.AllByRecursion}
 use Rattle.guarded.specs.LockedConnections.{begun}
 use Rattle.store.specs.declared.home.Home.{Home}
-use Rattle.wire.specs.Ranges.{IsDifference}
-use Rattle.wire.specs.declared.values.Version.{Version}
-use Rattle.multiplex.specs.Silence.{waited_for}
-use Rattle.multiplex.specs.declared.ends.EndReason.{EndReason}
+use Rattle.wire.specs.{Ranges.IsDifference, declared.values.Version.Version}
+use Rattle.multiplex.specs.{Silence.waited_for, declared.ends.EndReason.EndReason}
+use Rattle.multiplex.specs.declared.table.{Guest.Guest, ClientTable.ClientTable}
 use Rattle.multiplex.specs.declared.ends.EndReason.TheVariants as why
-use Rattle.multiplex.specs.declared.table.Guest.{Guest}
-use Rattle.multiplex.specs.declared.table.ClientTable.{ClientTable}
 
 abbrev pub has_number : ℕ → Guest → Bool
 has_number k g = g.number == k
@@ -53,8 +49,4 @@ IsEarliest (Some i) earliest count guests =
 abbrev pub MakesRoom : EndReason → List Guest → Type 0
 MakesRoom why.Crowded guests = 512 ≤ length guests
 MakesRoom why.NoSocket guests = Unit {0}
-MakesRoom why.Done guests = ⊥
-MakesRoom why.Ended guests = ⊥
-MakesRoom why.Broke guests = ⊥
-MakesRoom why.Silent guests = ⊥
-MakesRoom why.Over guests = ⊥
+MakesRoom _ guests = ⊥

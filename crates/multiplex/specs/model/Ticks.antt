@@ -1,13 +1,11 @@
 -- The Ticks that a desk gives itself, at one look.
 use Rattle.std.specs.Prelude.{◌≡◌, ◌⊎◌, ℕ, Bool, false, Option, None, IsTrue, IsFalse}
 use Rattle.answers.specs.declared.desk.Desk.{Ghosts as DeskOf}
-use Rattle.serving.specs.OwnTicks.{sides_alone}
-use Rattle.serving.specs.declared.peers.Peers.{Ghosts as PeersOf}
+use Rattle.serving.specs.{OwnTicks.sides_alone, declared.peers.Peers.Ghosts as PeersOf}
 use Rattle.ticking.specs.Ticking.{Look, Ticking}
 use Rattle.wire.specs.declared.values.Version.{Version}
 use Rattle.multiplex.specs.Passing.{TicksBy, over_if, shown, ticks_after, ticks_at}
-use Rattle.multiplex.specs.declared.ends.ServingEnd.{ServingEnd}
-use Rattle.multiplex.specs.declared.own_ticks.OwnTicks.{OwnTicks}
+use Rattle.multiplex.specs.declared.{ends.ServingEnd.ServingEnd, own_ticks.OwnTicks.OwnTicks}
 
 abbrev pub own_of : Option Ticking → Bool → OwnTicks
 own_of ticker starved = record { ticker = ticker; starved = starved }
@@ -40,9 +38,7 @@ pub record HasTicked {V U : Type 0} (d : DeskOf V) (p : PeersOf U) (version : Ve
 
 -- the ticker was shown the desk at this moment, and a Tick was taken where one was due
 abbrev pub MayTick : {V U : Type 0} → DeskOf V → PeersOf U → Version → ℕ → Option ServingEnd
-    → OwnTicks
-    → OwnTicks → Desks V U → Desks V U → Type 0
+    → OwnTicks → OwnTicks → Desks V U → Desks V U → Type 0
 MayTick d p version now over old new a b =
-    Waited (shown (d.seen a.node) now) over old new a b
-    ⊎ ((starved : Bool)
-    × HasTicked d p version (shown (d.seen a.node) now) starved over old new a b)
+    Waited (shown (d.seen a.node) now) over old new a b ⊎ ((starved : Bool) × HasTicked d p version
+    (shown (d.seen a.node) now) starved over old new a b)

@@ -1,28 +1,22 @@
 -- One connection and its client, where no table is yet.
 use Rattle.std.specs.Prelude.{◌≡◌, ◌⊎◌, ◌↔◌, ◌≤◌, ℕ, Bool, true, false, List, [], ◌∷◌, ◌++◌, length}
 use Rattle.std.specs.Prelude.{Option, None, Some}
-use Rattle.answers.specs.declared.desk.Desk.{Ghosts as DeskOf}
-use Rattle.serving.specs.declared.peers.Peers.{Ghosts as PeersOf}
-use Rattle.serving.specs.Making.{speaking}
-use Rattle.serving.specs.Sessions.{outside}
-use Rattle.serving.specs.Connection.{Begun}
-use Rattle.serving.specs.TurnLaw.{Turn, begun_in}
+use Rattle.answers.specs.{declared.desk.Desk.Ghosts as DeskOf, Seen.Seen, Seen.settled}
+use Rattle.serving.specs.{declared.peers.Peers.Ghosts as PeersOf, Making.speaking, Sessions.outside}
+use Rattle.connections.specs.Connections.{AreServedInTurn, Point, Served, begun_of}
+use Rattle.serving.specs.{Connection.Begun, TurnLaw.Turn, TurnLaw.begun_in}
 use Rattle.guarded.specs.LockedConnections.{LockedConnectionOf, IsDear, IsDone, IsFree, Receives}
-use Rattle.guarded.specs.LockedConnections.{Moment, WantsRead}
-use Rattle.guarded.specs.LockedConnections.{after_sent}
+use Rattle.guarded.specs.LockedConnections.{Moment, WantsRead, after_sent}
 use Rattle.guarded.specs.LockedTurns.{Follow, Place}
-use Rattle.wire.specs.declared.values.Version.{Version}
+use Rattle.wire.specs.declared.{values.Version.Version, standing.Difference.Difference}
 use Rattle.polled.specs.Telling.{Tells}
 use Rattle.polled.specs.Happenings.{Happened, Gave, Took, Broke}
 use Rattle.multiplex.specs.Passing.{AreMessages, IsFate, IsLeft, Settled, Shares, SharesLast}
 use Rattle.multiplex.specs.Passing.{pieces, told_why, told_turns}
-use Rattle.answers.specs.Seen.{Seen, settled}
 use Rattle.store.specs.declared.home.Home.{Home}
-use Rattle.wire.specs.declared.standing.Difference.{Difference}
 use Rattle.multiplex.specs.Noting.{AreDue, Ears, IsHeard, IsOff, PutsOff, ears, hear_all}
-use Rattle.multiplex.specs.declared.dear.DearTurns.{DearTurns}
-use Rattle.multiplex.specs.declared.notes.Notes.{Notes}
-use Rattle.multiplex.specs.declared.ends.EndReason.{EndReason}
+use Rattle.multiplex.specs.{model.Ticks.Desks, declared.ends.EndReason.EndReason}
+use Rattle.multiplex.specs.declared.{dear.DearTurns.DearTurns, notes.Notes.Notes}
 use Rattle.multiplex.specs.declared.ends.EndReason.TheVariants as why
 
 -- a node that serves, the other desks of its hall, its clients, and one of its connections
@@ -51,8 +45,7 @@ pub record Takes {V U C : Type 0} (d : DeskOf V) (p : PeersOf U)
     (begun : List Begun) (a b : Spot V U C) (turns : List Turn) : Type 0 where
   pub few : pieces turns ≤ most
   pub begins : begun_in turns ≡ begun
-  pub follow : Follow (place_at d p a.talk.talk.wire a) turns
-      (place_at d p a.talk.talk.wire b)
+  pub follow : Follow (place_at d p a.talk.talk.wire a) turns (place_at d p a.talk.talk.wire b)
   pub told : Tells (happened a.clients) (happened b.clients)
       (told_turns k turns ++ told_why k cause)
   pub home : b.talk.talk.home ≡ a.talk.talk.home
@@ -86,25 +79,51 @@ abbrev pub TalksOn : {V U C : Type 0} → DeskOf V → PeersOf U → (C → Opti
     → ℕ → Option EndReason → Beside → Beside → Spot V U C → Spot V U C → Type 0
 TalksOn d p happened k time fate old new a b =
     (begun : List Begun) × Goes d p happened k fate 1 begun a b
-    × (s : Shares begun old.spent new.spent)
-    × Beholds a.talk.talk.home time (d.seen a.node) s.messages s.last old new
-    × (fate ≡ None → IsLeft (d.seen b.node) time s.last b.talk new.notes.until)
-    × IsFate fate b.talk
+    × (s : Shares begun old.spent new.spent) × Beholds a.talk.talk.home time (d.seen a.node)
+    s.messages s.last old new
+    × (fate ≡ None → IsLeft (d.seen b.node) time s.last b.talk new.notes.until) × IsFate fate b.talk
 
--- the first becomes the second by a settling
-abbrev pub SettlesNode : {V : Type 0} → DeskOf V → V → Bool → V → Type 0
-SettlesNode d served ok node =
-    d.settles served ok node × (d.seen node ≡ settled ok (d.seen served))
+-- what is seen of a desk, and what is there beside, where frames are pushed in this version
+abbrev pub point_at : {V U : Type 0} → (d : DeskOf V) → PeersOf U → (version : Version)
+    → Desks V U → Point (speaking d.handles d.settles version)
+point_at d p version a = record {
+  seen = d.seen a.node;
+  outside = outside d p version a.node a.peers;
+}
+
+-- these frames were served, all of them messages of desks
+abbrev pub HearsThese : {V U : Type 0} → DeskOf V → PeersOf U → Version → Home → List Served
+    → Desks V U → Desks V U → Type 0
+HearsThese d p version home heard a b =
+    AreMessages (begun_of heard)
+    × AreServedInTurn home (point_at d p version a) heard (point_at d p version b)
+
+abbrev pub HearsOwn : {V U : Type 0} → DeskOf V → PeersOf U → Version → Home → Desks V U → Desks V U
+    → Type 0
+HearsOwn d p version home a b =
+    (heard : List Served) × HearsThese d p version home heard a b
+
+-- such frames were served, and what was changed by then is settled, or that failed; nothing more
+-- was handed over by that
+pub record SettlesDesks {V U : Type 0} (d : DeskOf V) (p : PeersOf U) (version : Version)
+    (home : Home) (ok : Bool) (a b : Desks V U) : Type 0 where
+  pub between : Desks V U
+  pub hears : HearsOwn d p version home a between
+  pub settles : d.settles between.node ok b.node
+  pub seen : d.seen b.node ≡ settled ok (d.seen between.node)
+  pub handed : p.handed b.peers ≡ p.handed between.peers
 
 -- so it is, or nothing was to be settled
-abbrev pub Rests : {V : Type 0} → DeskOf V → V → Bool → V → Type 0
-Rests d served ok node = SettlesNode d served ok node ⊎ ((ok ≡ true) × (node ≡ served))
+abbrev pub Rests : {V U : Type 0} → DeskOf V → PeersOf U → Version → Home → Bool → Desks V U
+    → Desks V U → Type 0
+Rests d p version home ok a b = SettlesDesks d p version home ok a b ⊎ ((ok ≡ true) × (b ≡ a))
 
 -- What was served is settled then; serving is over where that fails, and only there.
-abbrev pub ThenSettles : {V : Type 0} → DeskOf V → Option EndReason → V → (V → Type 0) → Type 0
-ThenSettles {V} d fate node Serves =
-    (served : V) × (ok : Bool) × Serves served × ((ok ≡ false) ↔ (fate ≡ Some why.Over))
-    × Rests d served ok node
+abbrev pub ThenSettles : {V U : Type 0} → DeskOf V → PeersOf U → Version → Home → Option EndReason
+    → Desks V U → (Desks V U → Type 0) → Type 0
+ThenSettles {V} {U} d p version home fate b Serves =
+    (served : Desks V U) × (ok : Bool) × Serves served × ((ok ≡ false) ↔ (fate ≡ Some why.Over))
+    × Rests d p version home ok served b
 
 -- true where nothing failed
 abbrev pub broken : Bool → Option EndReason
@@ -113,8 +132,7 @@ broken false = Some why.Broke
 
 -- what is done once is all that was told of it
 abbrev pub Sends : {C : Type 0} → (C → Option (List Happened)) → ℕ → Bool → C → C
-    → LockedConnectionOf
-    → LockedConnectionOf → Type 0
+    → LockedConnectionOf → LockedConnectionOf → Type 0
 Sends happened k true c later old new =
     ((bytes : List ℕ) × (old.output ≡ bytes ++ new.output) × (new ≡ after_sent old (length bytes))
     × Tells (happened c) (happened later) (Took k bytes ∷ []))
@@ -123,15 +141,12 @@ Sends happened k false c later old new =
     (new ≡ old) × Tells (happened c) (happened later) (Broke k ∷ [])
 
 abbrev pub Reads : {C : Type 0} → (C → Option (List Happened)) → ℕ → Option EndReason → C → C
-    → LockedConnectionOf
-    → LockedConnectionOf → Type 0
+    → LockedConnectionOf → LockedConnectionOf → Type 0
 Reads happened k None c later old new =
-    ((piece : List ℕ) × Receives piece old new
-    × Tells (happened c) (happened later) (Gave k piece ∷ []))
-    ⊎ ((new ≡ old) × Tells (happened c) (happened later) [])
+    ((piece : List ℕ) × Receives piece old new × Tells (happened c) (happened later)
+    (Gave k piece ∷ [])) ⊎ ((new ≡ old) × Tells (happened c) (happened later) [])
 Reads happened k (Some w) c later old new =
-    (new ≡ old) × Tells (happened c) (happened later) (told_why k (Some w))
-    × IsFate (Some w) new
+    (new ≡ old) × Tells (happened c) (happened later) (told_why k (Some w)) × IsFate (Some w) new
 
 -- all that came is served, or the connection ended and its answers were taken
 abbrev pub SettledOrDone : LockedConnectionOf → Type 0
@@ -148,9 +163,8 @@ MayShare false c spent later = IsDear c × (later ≡ spent)
 abbrev pub MayBegin : Bool → Home → Seen → ℕ → LockedConnectionOf → Notes → Notes → Bool → Bool
     → Type 0
 MayBegin may home x time c old new spent later =
-    (off : Bool) × PutsOff off home x time c old new
-    × (((off ≡ true) × (may ≡ false) × (later ≡ spent))
-    ⊎ ((off ≡ false) × MayShare may c spent later))
+    (off : Bool) × PutsOff off home x time c old new × (((off ≡ true) × (may ≡ false)
+    × (later ≡ spent)) ⊎ ((off ≡ false) × MayShare may c spent later))
 
 -- where no frame was begun: so it is, or the next one was put off
 abbrev pub IsLeftOrDone : Seen → ℕ → List Begun → LockedConnectionOf → Option ℕ → Type 0
@@ -199,14 +213,12 @@ abbrev pub ServesAlone : {V U : Type 0} → DeskOf V → PeersOf U → ℕ → �
     → DearTurns → Notes → Notes → Option Difference → Option Difference → Moment V U → Moment V U
     → Type 0
 ServesAlone d p k time served dear later notes new differs said a b =
-    ServesNext d p Some k time None served
-    (beside dear.spent notes differs) (beside later.spent new said)
-    (spot a.node a.peers [] a.guard) (spot b.node b.peers [] b.guard)
+    ServesNext d p Some k time None served (beside dear.spent notes differs)
+    (beside later.spent new said) (spot a.node a.peers [] a.guard) (spot b.node b.peers [] b.guard)
 
 -- a write; or a read, where nothing is to be sent and all that came is served; or nothing
 abbrev pub Moves : {C : Type 0} → (C → Option (List Happened)) → ℕ → Option EndReason → C → C
-    → LockedConnectionOf
-    → LockedConnectionOf → Type 0
+    → LockedConnectionOf → LockedConnectionOf → Type 0
 Moves happened k cause c later old new =
     ((ok : Bool) × (cause ≡ broken ok) × Sends happened k ok c later old new)
     ⊎ ((WantsRead old × Reads happened k cause c later old new)

@@ -1,8 +1,7 @@
 -- Numbers that are added to random bytes, and what of both is told by the sum.
-use Rattle.std.proofs.Common.{◌≡◌, ◌∙◌, ℕ, ◌+◌, ◌%◌, ◌^◌, ◌<◌, List, ◌++◌, take, drop, ap}
-use Rattle.std.proofs.Common.{sym, refl, arith}
-use Rattle.std.specs.Int.{from_be_bytes, to_be_bytes, w64}
-use Rattle.std.proofs.lemmas.Nat.{be_bytes_8, from_be_bytes-to_be_bytes_8}
+use Rattle.std.proofs.Common.{◌≡◌, ◌∙◌, ℕ, ◌+◌, ◌%◌, ◌^◌, ◌<◌, List, ◌++◌, take, drop, ap, sym}
+use Rattle.std.proofs.{Common.refl, lemmas.Nat.be_bytes_8, lemmas.Nat.from_be_bytes-to_be_bytes_8}
+use Rattle.std.{proofs.Common.arith, specs.Int.from_be_bytes, specs.Int.to_be_bytes, specs.Int.w64}
 use Rattle.polled.specs.sockets.Mixing.{IsHalf, KeepsDrawn, TellsApart, added}
 
 -- a sum within 64 bits

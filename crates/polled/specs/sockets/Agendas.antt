@@ -1,7 +1,6 @@
 -- What is still to be named of a round (the project's own).
 use Rattle.std.specs.Prelude.{◌≡◌, ◌⊎◌, ℕ, Bool, true, false, List, [], ◌∷◌, ◌++◌, Option, None}
-use Rattle.std.specs.Prelude.{Some}
-use Rattle.std.specs.List.Sorted.{IsNonDecreasing}
+use Rattle.std.specs.{Prelude.Some, List.Sorted.IsNonDecreasing}
 use Rattle.polled.specs.declared.answers.Ready.{Ready}
 use Rattle.polled.specs.declared.answers.Ready.TheVariants as ready
 

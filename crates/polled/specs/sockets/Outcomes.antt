@@ -1,15 +1,12 @@
 -- What the answers of the system say of a peer (the project's own).
-use Rattle.std.specs.Prelude.{ℕ, ℤ, pos, ◌==◌, ◌||◌, if◌then◌else◌, Bool, true, false}
-use Rattle.std.specs.Prelude.{Option, None, Some, Result, Ok, Err}
-use Rattle.std.specs.IoError.{error_kind, raw_os_error}
-use Rattle.std.specs.declared.io.Error.{Error}
-use Rattle.std.specs.declared.io.ErrorKind.{ErrorKind}
-use Rattle.std.specs.declared.io.ErrorKind.TheVariants as kind
-use Rattle.polled.specs.declared.answers.AcceptedPeer.{AcceptedPeer}
-use Rattle.polled.specs.declared.answers.AcceptedPeer.TheVariants as accepted
-use Rattle.polled.specs.declared.answers.ReadOutcome.{ReadOutcome}
-use Rattle.polled.specs.declared.answers.ReadOutcome.TheVariants as given
+use Rattle.std.specs.Prelude.{ℕ, ℤ, pos, ◌==◌, ◌||◌, if◌then◌else◌, Bool, true, false, Option, None}
+use Rattle.std.specs.{Prelude.Some, Prelude.Result, Prelude.Ok, Prelude.Err, IoError.raw_os_error}
+use Rattle.std.specs.{IoError.error_kind, declared.io.Error.Error, declared.io.ErrorKind.ErrorKind}
+use Rattle.polled.specs.declared.answers.{AcceptedPeer.AcceptedPeer, ReadOutcome.ReadOutcome}
 use Rattle.polled.specs.declared.answers.WriteOutcome.{WriteOutcome}
+use Rattle.std.specs.declared.io.ErrorKind.TheVariants as kind
+use Rattle.polled.specs.declared.answers.AcceptedPeer.TheVariants as accepted
+use Rattle.polled.specs.declared.answers.ReadOutcome.TheVariants as given
 use Rattle.polled.specs.declared.answers.WriteOutcome.TheVariants as taken
 
 -- a call that would wait, or was interrupted, is to be made again once the socket is ready

@@ -1,11 +1,10 @@
 -- The sockets of peers, and the poll that tells which of them is ready (the project's own).
-use Rattle.std.specs.Prelude.{◌≡◌, ◌≢◌, ℕ, Bool, false, true, is_some, nat_eq, nat_le}
-use Rattle.std.specs.Prelude.{List, [], length}
-use Rattle.std.specs.Map.{lookup}
+use Rattle.std.specs.Prelude.{◌≡◌, ◌≢◌, ℕ, Bool, false, true, is_some, nat_eq, nat_le, List, []}
+use Rattle.std.specs.{Prelude.length, Map.lookup}
 use Rattle.mio.specs.declared.net.stream.TcpStream.{TcpStream}
 use Rattle.polled.specs.declared.answers.AcceptedPeer.{AcceptedPeer}
-use Rattle.polled.specs.declared.answers.AcceptedPeer.TheVariants as accepted_is
 use Rattle.polled.specs.sockets.Agendas.{RoundOf, agenda, round}
+use Rattle.polled.specs.declared.answers.AcceptedPeer.TheVariants as accepted_is
 
 -- how many connections may be open at once, which ones are, each by its peer's number, and what is
 -- still to be named of a round

@@ -2,8 +2,7 @@
 use Rattle.std.specs.Prelude.{◌≡◌, ◌≢◌, ◌==◌, ◌-◌, ℕ, Bool, false, is_some, nat_eq, nat_le, nat_lt}
 use Rattle.std.specs.Prelude.{not, if◌then◌else◌, List, [], ◌∷◌}
 use Rattle.indexmap.specs.IndexMap.{get, index_map_len}
-use Rattle.polled.specs.declared.sockets.streams.EndingStream.{EndingStream}
-use Rattle.polled.specs.declared.sockets.streams.Streams.{Streams}
+use Rattle.polled.specs.declared.sockets.streams.{EndingStream.EndingStream, Streams.Streams}
 
 -- the connection of the peer with this number is open
 abbrev pub is_open : Streams → ℕ → Bool

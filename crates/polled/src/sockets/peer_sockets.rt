@@ -1,6 +1,6 @@
 //! The sockets of peers over TCP.
 
-ghost use Rattle.std.specs.Prelude.{◌≡◌, ◌≤◌, ◌+◌, length, true, false, IfOk};
+ghost use Rattle.std.specs.Prelude.{◌≡◌, ◌+◌, length, true, false, IfOk};
 ghost use Rattle.std.specs.List.Sorted.{IsNonDecreasing};
 ghost use Rattle.polled.specs.Counts.{CountsGiven, CountsTaken};
 ghost use Rattle.polled.specs.sockets.Agendas.{GoesOn, IsOver, NamesNext, round};

@@ -1,6 +1,6 @@
 //! The peers' sockets: those of open connections, and those of connections that are ending.
 
-ghost use Rattle.std.specs.Prelude.{◌≡◌, ◌≤◌, ◌+◌, [], false, length, true, IfOk};
+ghost use Rattle.std.specs.Prelude.{◌≡◌, ◌≤◌, [], false, length, true, IfOk};
 ghost use Rattle.polled.specs.Counts.{CountsGiven, CountsTaken};
 ghost use Rattle.indexmap.specs.IndexMap.{index_map_len};
 

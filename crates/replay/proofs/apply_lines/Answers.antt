@@ -1,9 +1,7 @@
-use Rattle.std.proofs.Common.{◌≡◌, ◌∙◌, ◌++◌, [], ap₂, refl, rules}
+use Rattle.std.proofs.Common.{[], refl, rules}
 use Rattle.std.proofs.KnownBytes.{Appends-nil}
-use Rattle.commands.specs.History.{after, answer_to}
-use Rattle.replay.specs.Replay.{refusal_text}
 use Rattle.lines.specs.declared.fault.RunFault.TheVariants as fault
-use Rattle.replay.proofs.Applied.{gives_true, one_more, forgotten, unwritten, stops, fails_by}
+use Rattle.replay.proofs.Applied.{forgotten, fails_by, one_line, stops, unwritten}
 use Rattle.replay.proofs.apply_lines.Goals as goal
 
 pub returns-in_err-apply_line-in-Ok-true-clause-err :
@@ -15,53 +13,28 @@ returns-in_err-apply_line-in-Ok-true-clause-err g c =
 pub loop-meet-preserved : goal.loop-meet-preserved
 loop-meet-preserved g c =
     let i = c.loop-meet.invariant in
-    let line = gives_true c.in-Ok-true.field-0 c.read_line.new.self c.read_line.new.line.items i.0
-    (g.R.Read.remaining c.args.reader.now) (g.R.Read.remaining c.read_line.new.reader)
-    c.in-Ok-true.field-0-test (c.in-Ok-true.ensures i.0 _ i.1.read) in
-    let meet :
-    c.apply_line.new.meet
-    ≡ after c.loop-meet.meet c.read_line.new.self.lines c.read_line.new.line.items =
-    c.in_ok-apply_line-in-Ok-true.ensures.after
-    ∙ ap₂ (after c.loop-meet.meet) c.count.ensures c.deref.ensures.value in
-    let said :
-    c.apply_line.new.out.items
-    ≡ c.loop-meet.out.items
-    ++ refusal_text c.read_line.new.self.lines
-    (answer_to c.loop-meet.meet c.read_line.new.self.lines c.read_line.new.line.items) =
-    c.in_ok-apply_line-in-Ok-true.ensures.said
-    ∙ ap₂ (λ n text. c.loop-meet.out.items ++ refusal_text n (answer_to c.loop-meet.meet n text))
-    c.count.ensures c.deref.ensures.value in (
-      i.0 ++ line.more,
-      one_more _ _ _ _ _ i.0 _ _ c.write_long.new.text.items _ _ _ _ _
-          (g.W.Write.contents c.write_long.new.writer)
-          i.1 line meet said c.in_ok-write_long-in-Ok-true.ensures.ok,
-    )
+    one_line c.in-Ok-true.field-0 _ _ _ _ _ _ c.read_line.new.line.items i.0 _ _
+    c.write_long.new.text.items (g.R.Read.remaining c.args.reader.now) _
+    (g.R.Read.remaining c.read_line.new.reader) _ _ (g.W.Write.contents c.write_long.new.writer) i.1
+    c.in-Ok-true.field-0-test (c.in-Ok-true.ensures i.0 _ i.1.read) c.count.ensures
+    c.deref.ensures.value c.in_ok-apply_line-in-Ok-true.ensures.after
+    c.in_ok-apply_line-in-Ok-true.ensures.said c.in_ok-write_long-in-Ok-true.ensures.ok
 
 pub returns-in_err-write_long-in-Ok-true-clause-err :
     goal.returns-in_err-write_long-in-Ok-true-clause-err
 returns-in_err-write_long-in-Ok-true-clause-err g c =
     let i = c.loop-meet.invariant in
-    let line = gives_true c.in-Ok-true.field-0 c.read_line.new.self c.read_line.new.line.items i.0
-    (g.R.Read.remaining c.args.reader.now) (g.R.Read.remaining c.read_line.new.reader)
-    c.in-Ok-true.field-0-test (c.in-Ok-true.ensures i.0 _ i.1.read) in
-    let meet :
-    c.apply_line.new.meet
-    ≡ after c.loop-meet.meet c.read_line.new.self.lines c.read_line.new.line.items =
-    c.in_ok-apply_line-in-Ok-true.ensures.after
-    ∙ ap₂ (after c.loop-meet.meet) c.count.ensures c.deref.ensures.value in
-    let said :
-    c.apply_line.new.out.items
-    ≡ c.loop-meet.out.items
-    ++ refusal_text c.read_line.new.self.lines
-    (answer_to c.loop-meet.meet c.read_line.new.self.lines c.read_line.new.line.items) =
+    let applied =
+    one_line c.in-Ok-true.field-0 _ c.read_line.new.self _ _ _ _ c.read_line.new.line.items i.0 _ _
+    c.apply_line.new.out.items (g.R.Read.remaining c.args.reader.now) _
+    (g.R.Read.remaining c.read_line.new.reader) (g.W.Write.contents c.args.writer.now) _
+    (g.W.Write.contents c.loop-meet.writer) i.1
+    c.in-Ok-true.field-0-test (c.in-Ok-true.ensures i.0 _ i.1.read) c.count.ensures
+    c.deref.ensures.value c.in_ok-apply_line-in-Ok-true.ensures.after
     c.in_ok-apply_line-in-Ok-true.ensures.said
-    ∙ ap₂ (λ n text. c.loop-meet.out.items ++ refusal_text n (answer_to c.loop-meet.meet n text))
-    c.count.ensures c.deref.ensures.value in
-    let applied = one_more _ _ _ _ _ i.0 _ _ c.apply_line.new.out.items _ _ _ _ _
-    (g.W.Write.contents c.loop-meet.writer) i.1 line meet said
     ([], record { parts = refl; written = Appends-nil _ }) in
     fails_by _ c.from_residual-in_err-write_long-in-Ok-true.result fault.Write (search rules)
-    (unwritten _ _ _ _ _ _ _ _ _ applied c.in_err-write_long-in-Ok-true.ensures.err)
+    (unwritten _ _ _ _ _ _ _ _ _ applied.1 c.in_err-write_long-in-Ok-true.ensures.err)
 
 pub returns-in_err-write_out-in-Err-clause-err : goal.returns-in_err-write_out-in-Err-clause-err
 returns-in_err-write_out-in-Err-clause-err g c =

@@ -1,14 +1,10 @@
 -- The steps of a desk, as its code plans them.
 use Rattle.std.proofs.Common.{◌≡◌, ℕ, Bool, true, false, if◌then◌else◌, ◌↔◌, length, ◌∙◌, List, []}
 use Rattle.std.proofs.Common.{◌∷◌, Result, Ok, Err, IfOk, subst, refl, sym, ap}
-use Rattle.acceptor.specs.declared.entry.Entry.{Entry}
-use Rattle.acceptor.specs.declared.message.Message.{Message}
-use Rattle.proposer.specs.declared.fault.Refusal.{Refusal}
-use Rattle.proposer.specs.declared.plan.Plan.{Plan}
-use Rattle.proposer.specs.Plans.{Passing, queue_after, only_say}
-use Rattle.proposer.specs.Proposing.{start, tick}
-use Rattle.proposer.specs.Refusals.{RefusesAs}
-use Rattle.proposer.specs.declared.fault.StepFault.{StepFault}
+use Rattle.acceptor.specs.declared.{entry.Entry.Entry, message.Message.Message}
+use Rattle.proposer.specs.declared.fault.{Refusal.Refusal, StepFault.StepFault}
+use Rattle.proposer.specs.{declared.plan.Plan.Plan, Proposing.start, Refusals.RefusesAs}
+use Rattle.proposer.specs.{Plans.Passing, Plans.queue_after, Plans.only_say, Proposing.tick}
 use Rattle.learner.specs.Desks.{Desk, passing}
 use Rattle.learner.specs.Steps.{Done, done, idle, planned, passed, is_heeded, on_body, step}
 use Rattle.learner.specs.declared.event.DeskEvent.TheVariants.{Start, Tick, Deliver}
@@ -21,14 +17,12 @@ queue_stays (e ∷ es) = refl
 -- a plan that neither changes nor sends anything leaves the desk as it is
 idle_done : (x : Desk) → idle x ≡ done x (only_say (passing x) [])
 idle_done x =
-    ap
-    (λ (q : List Entry).
+    ap (λ (q : List Entry).
     record {
       desk =
           record { stored = x.stored; log = x.log; role = x.role; queue = q; seen = x.seen };
       messages = [];
-    })
-    (sym (queue_stays x.queue))
+    }) (sym (queue_stays x.queue))
 
 -- a message is met by its plan
 pub delivery_step : (x : RunningDesk) (m : Message)
@@ -69,14 +63,12 @@ passed_refused x (Err other) why = (
 
 -- a call that refuses as the plan does refuses as the step does
 pub refuses_planned : {A : Type 0} (x : Desk) (result : Result A StepFault)
-    (r : Result Plan Refusal)
-    → RefusesAs result r → RefusesAs result (planned x r)
+    (r : Result Plan Refusal) → RefusesAs result r → RefusesAs result (planned x r)
 refuses_planned x result r h why =
     let p = planned_refused x r why in let k = h why in (λ e. p.0 (k.0 e), λ e. k.1 (p.1 e))
 
 pub refuses_passed : {A : Type 0} (x : Desk) (result : Result A StepFault)
-    (r : Result Passing Refusal)
-    → RefusesAs result r → RefusesAs result (passed x r)
+    (r : Result Passing Refusal) → RefusesAs result r → RefusesAs result (passed x r)
 refuses_passed x result r h why =
     let p = passed_refused x r why in let k = h why in (λ e. p.0 (k.0 e), λ e. k.1 (p.1 e))
 

@@ -1,20 +1,14 @@
 -- A model of the code: the plan that is worked out for an event is that of its step.
 use Rattle.std.specs.Prelude.{◌≡◌, List, Result, Ok, IfOk}
 use Rattle.acceptor.specs.declared.message.Message.{Message}
-use Rattle.proposer.specs.Refusals.{RefusesAs}
-use Rattle.proposer.specs.declared.fault.Refusal.{Refusal}
-use Rattle.proposer.specs.declared.fault.StepFault.{StepFault}
-use Rattle.proposer.specs.declared.plan.Plan.{Plan}
-use Rattle.learner.specs.declared.event.DeskEvent.{DeskEvent}
-use Rattle.learner.specs.Desks.{Desk}
+use Rattle.proposer.specs.{Refusals.RefusesAs, declared.plan.Plan.Plan}
+use Rattle.proposer.specs.declared.fault.{Refusal.Refusal, StepFault.StepFault}
+use Rattle.learner.specs.{declared.event.DeskEvent.DeskEvent, Desks.Desk}
 use Rattle.learner.specs.Steps.{Done, done, step}
-use Rattle.replica.specs.declared.roles.fault.NodeFault.{NodeFault}
-use Rattle.replica.specs.roles.model.RunningDesks.{RunningDesk}
-use Rattle.store.specs.declared.home.Home.{Home}
-use Rattle.store.specs.declared.keeper.Keeper.{Ghosts}
+use Rattle.replica.specs.{declared.roles.fault.NodeFault.NodeFault, Nodes.NodeValue}
+use Rattle.replica.specs.{roles.model.RunningDesks.RunningDesk, Stores.HoldsStep}
+use Rattle.store.specs.declared.{home.Home.Home, keeper.Keeper.Ghosts}
 use Rattle.replica.specs.Handles.{IsIgnored, Takes, step_at}
-use Rattle.replica.specs.Nodes.{NodeValue}
-use Rattle.replica.specs.Stores.{HoldsStep}
 
 -- the plan, or the refusal, is that of the step of desk x
 pub record IsPlanned (x : Desk) (planned : Result Plan StepFault)

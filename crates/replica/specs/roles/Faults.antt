@@ -1,11 +1,9 @@
 -- How a desk names what keeps it from a step (the project's own).
-use Rattle.proposer.specs.declared.fault.Refusal.{Refusal}
-use Rattle.proposer.specs.declared.fault.Refusal.TheVariants as refusal
-use Rattle.proposer.specs.declared.fault.StepFault.{StepFault}
-use Rattle.proposer.specs.declared.fault.StepFault.TheVariants as step
-use Rattle.replica.specs.declared.roles.fault.NodeFault.{NodeFault}
+use Rattle.proposer.specs.declared.fault.{Refusal.Refusal, StepFault.StepFault}
+use Rattle.replica.specs.declared.roles.fault.NodeFault.{NodeFault, TheVariants.NoMemory}
 use Rattle.replica.specs.declared.roles.fault.NodeFault.TheVariants.{Busy, LogFull, BallotsSpent}
-use Rattle.replica.specs.declared.roles.fault.NodeFault.TheVariants.{NoMemory}
+use Rattle.proposer.specs.declared.fault.Refusal.TheVariants as refusal
+use Rattle.proposer.specs.declared.fault.StepFault.TheVariants as step
 
 -- the fault for a refusal of the protocol's step
 abbrev pub refused_as : Refusal → NodeFault

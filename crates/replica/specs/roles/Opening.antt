@@ -1,7 +1,6 @@
 -- What a desk is when it is opened (the project's own).
 use Rattle.std.specs.Prelude.{List, []}
-use Rattle.acceptor.specs.declared.entry.Entry.{Entry}
-use Rattle.acceptor.specs.declared.stored.Stored.{Stored}
+use Rattle.acceptor.specs.declared.{entry.Entry.Entry, stored.Stored.Stored}
 use Rattle.proposer.specs.declared.role.Role.TheVariants.{Idle}
 use Rattle.learner.specs.Desks.{Desk}
 

@@ -1,12 +1,9 @@
 -- The entrants of a round as the table sees them.
-use Rattle.std.specs.Prelude.{◌≡◌, ◌<◌, ◌≤◌, ℕ, zero, suc, Bool, false, List, []}
-use Rattle.std.specs.Prelude.{◌∷◌, ◌++◌, Option, Some, find, filter, length, map, not, slice_get}
-use Rattle.std.specs.Prelude.{remove, All}
-use Rattle.attempts.specs.declared.Value.{Value}
-use Rattle.attempts.specs.Attempts.{IsInRangeOf}
+use Rattle.std.specs.Prelude.{◌≡◌, ◌<◌, ◌≤◌, ℕ, zero, suc, Bool, false, List, [], ◌∷◌, ◌++◌, Option}
+use Rattle.std.specs.Prelude.{Some, find, filter, length, map, not, slice_get, remove, All}
+use Rattle.attempts.specs.{declared.Value.Value, Attempts.IsInRangeOf}
 use Rattle.formats.specs.declared.events.Format.{Format}
-use Rattle.rounds.specs.declared.rules.Rules.{Rules}
-use Rattle.rounds.specs.declared.kept_entrant.KeptEntrant.{KeptEntrant}
+use Rattle.rounds.specs.declared.{rules.Rules.Rules, kept_entrant.KeptEntrant.KeptEntrant}
 use Rattle.rounds.specs.Tables.{Entrant, Table, IsCutoff, allotted, changed_of, has_number, place}
 use Rattle.rounds.specs.model.KeptEntrants.{kept_of}
 

@@ -1,7 +1,6 @@
 -- How the values of one entrant are kept.
 use Rattle.std.specs.Prelude.{◌≡◌, ◌≤◌, length, take}
-use Rattle.rounds.specs.model.ValueRows.{Values}
-use Rattle.rounds.specs.declared.value_row.ValueRow.TheInside.{Inside}
+use Rattle.rounds.specs.{model.ValueRows.Values, declared.value_row.ValueRow.TheInside.Inside}
 
 abbrev pub values_of_row : Inside → Values
 values_of_row a = take a.done a.values

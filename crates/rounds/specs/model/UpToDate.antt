@@ -1,18 +1,12 @@
 -- What is kept of a round's entrants is up to date: places and counts are those of the values.
 use Rattle.std.specs.Prelude.{◌≡◌, ◌≤◌, ℕ, List, [], None, All, count_by, length, map}
-use Rattle.std.specs.List.{list_any}
-use Rattle.std.specs.Map.{values_of}
-use Rattle.formats.specs.declared.results.RankKey.{RankKey}
-use Rattle.formats.specs.Events.{most_entrants}
-use Rattle.formats.specs.Results.{IsFormatOf, is_better}
-use Rattle.rounds.specs.declared.entrants.Entrants.TheInside.{Inside}
-use Rattle.rounds.specs.declared.rules.Rules.{Rules}
-use Rattle.rounds.specs.declared.kept_entrant.KeptEntrant.{KeptEntrant}
-use Rattle.attempts.specs.Attempts.{IsInRangeOf}
-use Rattle.attempts.specs.declared.Value.TheVariants.{Dns}
-use Rattle.formats.specs.declared.results.Averaged.TheVariants.{Missing}
+use Rattle.std.specs.{List.list_any, Map.values_of}
+use Rattle.formats.specs.declared.results.{RankKey.RankKey, Averaged.TheVariants.Missing}
+use Rattle.formats.specs.{Events.most_entrants, Results.IsFormatOf, Results.is_better}
+use Rattle.rounds.specs.declared.{entrants.Entrants.TheInside.Inside, rules.Rules.Rules}
+use Rattle.rounds.specs.{declared.kept_entrant.KeptEntrant.KeptEntrant, model.Field.Field}
+use Rattle.attempts.specs.{Attempts.IsInRangeOf, declared.Value.TheVariants.Dns}
 use Rattle.rounds.specs.Tables.{Entrant, IsCutoff, allotted, is_started_attempt}
-use Rattle.rounds.specs.model.Field.{Field}
 use Rattle.rounds.specs.model.PackedKeys.{HasPackedKey, HasRoom, packed_key_of}
 use Rattle.rounds.specs.model.KeptEntrants.{kept_of, is_unfinished, place_among}
 

@@ -1,8 +1,7 @@
 -- What the steps of an opener do.
 use Rattle.std.specs.Prelude.{◌≡◌, ◌⊎◌, ℕ, ◌+◌, ◌-◌, ◌<◌, ◌≤◌, List, ◌++◌, length, take, Some}
 use Rattle.std.specs.Prelude.{slice_range}
-use Rattle.seal.specs.declared.channel.Channel.{Channel}
-use Rattle.seal.specs.declared.front.RecordFront.{RecordFront}
+use Rattle.seal.specs.declared.{channel.Channel.Channel, front.RecordFront.RecordFront}
 use Rattle.seal.specs.declared.front.RecordFront.TheVariants.{Waits, Fits, Breaks}
 use Rattle.seal.specs.Records.{IsLength, IsBody, record_of}
 use Rattle.seal.specs.Streams.{length_at, Ends, Opening, Reads}

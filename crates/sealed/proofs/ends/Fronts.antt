@@ -1,8 +1,6 @@
 -- The first four bytes that came, as more comes.
-use Rattle.std.proofs.Common.{◌≡◌, ℕ, ◌+◌, ◌-◌, ◌≤◌, List, ◌++◌, length, take, min}
-use Rattle.std.proofs.Common.{sym, ap, ◌∙◌, arith}
-use Rattle.std.proofs.lemmas.List.{take_min}
-use Rattle.std.proofs.Math.Seq.{take-append-add}
+use Rattle.std.proofs.Common.{◌≡◌, ℕ, ◌+◌, ◌-◌, ◌≤◌, List, ◌++◌, length, take, min, sym, ap, ◌∙◌}
+use Rattle.std.proofs.{Common.arith, lemmas.List.take_min, Math.Seq.take-append-add}
 
 -- held bytes, with those of a piece after them up to four
 pub held_is : (old piece new : List ℕ) (added : ℕ) → length old ≤ 4

@@ -1,26 +1,18 @@
 -- A connection of a caller goes on as one through each call.
-use Rattle.std.proofs.Common.{◌≡◌, ℕ, ◌==◌, ◌&&◌, Bool, true, false, List, [], ◌∷◌, ◌++◌}
-use Rattle.std.proofs.Common.{length, take, drop, Option, Some, None, refl, sym, ap, subst, ◌∙◌}
+use Rattle.std.proofs.Common.{◌≡◌, ℕ, ◌==◌, ◌&&◌, Bool, true, false, List, [], ◌∷◌, ◌++◌, length}
+use Rattle.std.proofs.Common.{take, drop, Option, Some, None, refl, sym, ap, subst, ◌∙◌}
 use Rattle.std.proofs.Common.{append_assoc, arith, inl}
-use Rattle.std.proofs.lemmas.Bool.Decides.{Decides-eqb}
-use Rattle.std.proofs.lemmas.List.{append-nil, take-append-drop}
-use Rattle.seal.specs.declared.channel.Channel.{Channel}
-use Rattle.seal.specs.declared.channel.Direction.TheVariants.{ToServer}
-use Rattle.seal.specs.Records.{key_of, preface_of}
-use Rattle.seal.specs.Sealing.{Sealing}
+use Rattle.std.proofs.lemmas.{Bool.Decides.Decides-eqb, List.append-nil, List.take-append-drop}
+use Rattle.seal.specs.declared.channel.{Channel.Channel, Direction.TheVariants.ToServer}
+use Rattle.seal.specs.{Records.key_of, Records.preface_of, Sealing.Sealing}
 use Rattle.seal.specs.Streams.{Opening, Reads}
 use Rattle.sealed.specs.ClientSeals.{ClientSealOf, SendsBy, SendsOn, StandsBy, StandsOpen}
-use Rattle.sealed.specs.Sent.{SentOver, from_start}
-use Rattle.sealed.specs.Trials.{SealsOver}
+use Rattle.sealed.specs.{Sent.SentOver, Sent.from_start, Trials.SealsOver}
 use Rattle.sealed.specs.Tunnels.{SealsAll, TunnelOf, channel_of}
-use Rattle.sealed.proofs.Fronting.{prefaced_more}
-use Rattle.sealed.proofs.Lawful.{seals_on}
-use Rattle.sealed.proofs.Sealings.{seals_none}
-use Rattle.sealed.specs.ends.ClientStreams.{ClientStreamOf, Gives, GivesBy, IsSameKey, ReadsBy}
-use Rattle.sealed.specs.ends.ClientStreams.{Receives, SealsBy}
-use Rattle.sealed.specs.ends.ClientStreams.{calling_of, first_output, fresh_client_stream, is_open}
-use Rattle.sealed.specs.ends.ClientStreams.{is_ready}
-use Rattle.sealed.specs.ends.ClientStreams.{is_there, open_by}
+use Rattle.sealed.proofs.{Fronting.prefaced_more, Lawful.seals_on, Sealings.seals_none}
+use Rattle.sealed.specs.ends.ClientStreams.{ClientStreamOf, first_output, fresh_client_stream}
+use Rattle.sealed.specs.ends.ClientStreams.{Gives, GivesBy, ReadsBy, SealsBy, is_open, open_by}
+use Rattle.sealed.specs.ends.ClientStreams.{IsSameKey, Receives, calling_of, is_ready, is_there}
 use Rattle.sealed.specs.ends.Given.{SentAs, SentBy, SentSealed}
 use Rattle.sealed.specs.ends.Laws.{IsCall, IsOf, StaysCall}
 
@@ -194,9 +186,7 @@ takes_tunnel (Some t) s u key random bytes out came handed given sent c is there
     let gone_all = subst (λ (x : List ℕ). SentSealed t s came given x) sent_all gone in
     subst
     (λ (x : ClientSealOf). IsCall key random (with_both c (Some x) out) came handed (given ++ bytes)
-    sent)
-    (sym h.2)
-    (record {
+    sent) (sym h.2) (record {
       side = side;
       stands = record {
         front = call.stands.front;
@@ -218,12 +208,8 @@ takes_by None key random bytes out came handed given sent c mid is opened h noth
     ap (λ (x : List ℕ). sent ++ x) h.0
     ∙ ap (λ (x : List ℕ). x ++ bytes)
     (sym (append-nil sent) ∙ ap (λ (x : List ℕ). sent ++ x) (sym nothing) ∙ gone) in
-    subst
-    (λ (m : ClientStreamOf). IsCall key random (record m { output = out }) came handed
-    (given ++ bytes)
-    sent)
-    (sym h.1)
-    (record {
+    subst (λ (m : ClientStreamOf). IsCall key random (record m { output = out }) came handed
+    (given ++ bytes) sent) (sym h.1) (record {
       side = call.side;
       stands = record {
         front = call.stands.front;
@@ -235,11 +221,8 @@ takes_by None key random bytes out came handed given sent c mid is opened h noth
           sent_all;
     })
 takes_by (Some s) key random bytes out came handed given sent c mid is opened h nothing call =
-    subst
-    (λ (m : ClientStreamOf). IsCall key random (record m { output = out }) came handed
-    (given ++ bytes)
-    sent)
-    (sym h.2)
+    subst (λ (m : ClientStreamOf). IsCall key random (record m { output = out }) came handed
+    (given ++ bytes) sent) (sym h.2)
     (takes_tunnel s.tunnel s h.0 key random bytes out came handed given sent c refl opened h.1 is
     nothing call)
 
@@ -279,8 +262,7 @@ gives key random bytes came handed given sent count old new h call =
 -- ---- bytes are sent
 
 sends : (key : Option (List ℕ)) (random came handed given sent : List ℕ) (count : ℕ)
-    (c : ClientStreamOf)
-    → IsCall key random c came handed given sent
+    (c : ClientStreamOf) → IsCall key random c came handed given sent
     → IsCall key random (record c { output = drop count c.output }) came handed given
     (sent ++ take count c.output)
 sends key random came handed given sent count c h =

@@ -1,13 +1,8 @@
 -- What the bytes of a connection are, by what its caller's end keeps.
-use Rattle.std.proofs.Common.{ℕ, List, ◌++◌, Option, Some, None}
-use Rattle.std.proofs.Common.{sym, ap, subst, ◌∙◌, inl, inr}
-use Rattle.seal.specs.declared.channel.Channel.{Channel}
-use Rattle.seal.specs.Records.{preface_of, records}
-use Rattle.sealed.specs.ClientSeals.{ClientSealOf}
-use Rattle.sealed.specs.Tunnels.{TunnelOf}
-use Rattle.sealed.proofs.Lawful.{opens}
-use Rattle.sealed.specs.ends.ClientStreams.{ReadsBy}
-use Rattle.sealed.specs.ends.Given.{SentAs, SentBy}
+use Rattle.std.proofs.Common.{ℕ, List, ◌++◌, Option, Some, None, sym, ap, subst, ◌∙◌, inl, inr}
+use Rattle.seal.specs.{declared.channel.Channel.Channel, Records.preface_of, Records.records}
+use Rattle.sealed.specs.{ClientSeals.ClientSealOf, Tunnels.TunnelOf, ends.ClientStreams.ReadsBy}
+use Rattle.sealed.{proofs.Lawful.opens, specs.ends.Given.SentAs, specs.ends.Given.SentBy}
 use Rattle.sealed.specs.ends.Laws.{CallsSpeak, IsHanded, IsOf, IsSent}
 
 handed_by : (o : Option ClientSealOf) (key : Option (List ℕ)) (random came handed : List ℕ)

@@ -1,21 +1,15 @@
 -- What is wrong is told exactly.
-use Rattle.std.proofs.Common.{◌≡◌, ℕ, ◌==◌, ◌&&◌, Bool, true, false, List, length, take}
-use Rattle.std.proofs.Common.{Option, Some, None, refl, sym, ap, subst, ◌∙◌, inl, inr}
-use Rattle.std.proofs.Common.{if◌then◌else◌, bytes_eq}
-use Rattle.std.proofs.lemmas.Bool.Decides.{Decides-eqb}
-use Rattle.std.proofs.lemmas.Slice.Eq.{bytes_eq-Decides}
-use Rattle.seal.specs.declared.channel.Channel.{Channel}
-use Rattle.seal.specs.declared.fault.StreamFault.{StreamFault}
-use Rattle.seal.specs.Records.{mark}
-use Rattle.seal.specs.Streams.{HandsOn}
-use Rattle.seal.proofs.Reading.{reads_all}
+use Rattle.std.proofs.Common.{◌≡◌, ℕ, Bool, true, List, take, Some, None, refl, sym, ◌∙◌, inl, inr}
+use Rattle.std.proofs.Common.{◌==◌, ◌&&◌, false, length, Option, ap, subst, if◌then◌else◌, bytes_eq}
+use Rattle.std.proofs.lemmas.{Bool.Decides.Decides-eqb, Slice.Eq.bytes_eq-Decides}
+use Rattle.seal.specs.declared.{channel.Channel.Channel, fault.StreamFault.StreamFault}
+use Rattle.seal.{specs.Records.mark, specs.Streams.HandsOn, proofs.Reading.reads_all}
 use Rattle.sealed.specs.ClientSeals.{ClientSealOf, StandsOpen, StandsBy}
-use Rattle.sealed.specs.ClientSeals as Callings
-use Rattle.sealed.specs.Tunnels.{TunnelOf}
+use Rattle.sealed.specs.{Tunnels.TunnelOf, declared.ends.trouble.CallTrouble.TheVariants.HasKey}
 use Rattle.sealed.specs.ends.ClientStreams.{ReadsBy, sealed_trouble, trouble_by}
 use Rattle.sealed.specs.ends.Laws.{IsOf, IsOpenedTo, IsWrong, TellsTrouble}
 use Rattle.sealed.specs.ends.Plain.{begins_mark, is_mark}
-use Rattle.sealed.specs.declared.ends.trouble.CallTrouble.TheVariants.{HasKey}
+use Rattle.sealed.specs.ClientSeals as Callings
 
 and_both : (a b : Bool) → (a && b) ≡ true → (a ≡ true) × (b ≡ true)
 and_both true b h = (refl, h)
@@ -63,8 +57,7 @@ wrong_sealed None s came handed h = wrong_closed s.unsealed s came handed h
 wrong_sealed (Some t) s came handed h = wrong_fault t.opener.fault s t came handed refl h
 
 wrong_plain : (b : Bool) (random came handed front : List ℕ) → is_mark front ≡ b
-    → front ≡ take 4 came
-    → IsWrong (trouble_by None front) None random came handed
+    → front ≡ take 4 came → IsWrong (trouble_by None front) None random came handed
 wrong_plain true random came handed front is first =
     subst (λ (b : Bool). IsWrong (if b then Some HasKey else None) None random came handed) (sym is)
     (refl, sym first ∙ mark_is front is)

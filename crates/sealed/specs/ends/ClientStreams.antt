@@ -2,17 +2,15 @@
 -- own).
 use Rattle.std.specs.Prelude.{◌≡◌, ℕ, ◌==◌, ◌&&◌, not, Bool, true, false, List, [], ◌∷◌, ◌++◌}
 use Rattle.std.specs.Prelude.{length, take, min, Option, None, Some, option_map, if◌then◌else◌}
-use Rattle.seal.specs.declared.fault.SealFault.{SealFault}
-use Rattle.seal.specs.declared.fault.SealFault.TheVariants.{NoMemory}
+use Rattle.seal.specs.declared.fault.SealFault.{SealFault, TheVariants.NoMemory}
 use Rattle.seal.specs.Records.{preface_of}
-use Rattle.sealed.specs.declared.client_seal.SealTrouble.{SealTrouble}
-use Rattle.sealed.specs.declared.client_seal.SealTrouble.TheVariants as sealed_as
+use Rattle.sealed.specs.{declared.client_seal.SealTrouble.SealTrouble, Tunnels.TunnelOf}
 use Rattle.sealed.specs.ClientSeals.{ClientSealOf, FailsTo, SendsOn, SendsTo, fresh_client_seal}
-use Rattle.sealed.specs.ClientSeals as Callings
-use Rattle.sealed.specs.Tunnels.{TunnelOf}
 use Rattle.sealed.specs.declared.ends.trouble.CallTrouble.{CallTrouble}
 use Rattle.sealed.specs.declared.ends.trouble.CallTrouble.TheVariants.{NoKey, OtherKey, HasKey}
 use Rattle.sealed.specs.ends.Plain.{handed_plain, is_mark}
+use Rattle.sealed.specs.declared.client_seal.SealTrouble.TheVariants as sealed_as
+use Rattle.sealed.specs.ClientSeals as Callings
 
 -- the side of the key, where there is one, the first bytes that came, at most four, whether
 -- something was handed on, and what is to be sent

@@ -2,12 +2,8 @@
 use Rattle.std.specs.Prelude.{◌≡◌, ℕ, List, [], ◌++◌, Option, None, Some}
 use Rattle.seal.specs.declared.channel.Direction.TheVariants.{ToServer}
 use Rattle.seal.specs.Records.{key_of, preface_of}
-use Rattle.sealed.specs.ClientSeals.{ClientSealOf}
-use Rattle.sealed.specs.Fronts.{IsPrefaced}
-use Rattle.sealed.specs.Sent.{SentOver}
-use Rattle.sealed.specs.Trials.{goes_by}
-use Rattle.sealed.specs.Tunnels.{TunnelOf, channel_of}
-use Rattle.sealed.specs.ends.ClientStreams.{ClientStreamOf}
+use Rattle.sealed.specs.{ClientSeals.ClientSealOf, Fronts.IsPrefaced, Sent.SentOver, Trials.goes_by}
+use Rattle.sealed.specs.{Tunnels.TunnelOf, Tunnels.channel_of, ends.ClientStreams.ClientStreamOf}
 
 -- the desk's preface came, and after the caller's own the records of what was given were sent,
 -- numbered from 0

@@ -1,19 +1,14 @@
 -- Laws of a caller's end of a connection (the project's own).
-use Rattle.std.specs.Prelude.{◌≡◌, ◌≢◌, ◌⊎◌, ℕ, List, [], ◌++◌, drop, take}
-use Rattle.std.specs.Prelude.{Option, None, Some}
+use Rattle.std.specs.Prelude.{◌≡◌, ◌≢◌, ◌⊎◌, ℕ, List, [], ◌++◌, drop, take, Option, None, Some}
 use Rattle.seal.specs.declared.channel.Direction.TheVariants.{ToServer, ToClient}
-use Rattle.seal.specs.declared.fault.StreamFault.{StreamFault}
+use Rattle.seal.specs.{declared.fault.StreamFault.StreamFault, Streams.HandsOn, Streams.joined}
 use Rattle.seal.specs.Records.{AreBodies, key_of, mark, preface_of, records}
-use Rattle.seal.specs.Streams.{HandsOn, joined}
-use Rattle.sealed.specs.ClientSeals.{ClientSealOf, IsOpened}
-use Rattle.sealed.specs.Fronts.{IsPrefaced, IsShort, IsUnsealed}
-use Rattle.sealed.specs.Tunnels.{channel_of}
-use Rattle.sealed.specs.declared.ends.trouble.CallTrouble.{CallTrouble}
+use Rattle.sealed.specs.{ClientSeals.ClientSealOf, ends.Given.HasSent, ends.Plain.handed_plain}
+use Rattle.sealed.specs.{ClientSeals.IsOpened, Fronts.IsPrefaced, Fronts.IsShort, Fronts.IsUnsealed}
+use Rattle.sealed.specs.{Tunnels.channel_of, declared.ends.trouble.CallTrouble.CallTrouble}
 use Rattle.sealed.specs.declared.ends.trouble.CallTrouble.TheVariants.{NoKey, OtherKey, HasKey}
 use Rattle.sealed.specs.ends.ClientStreams.{ClientStreamOf, Gives, Receives, Stands}
 use Rattle.sealed.specs.ends.ClientStreams.{fresh_client_stream, trouble_of}
-use Rattle.sealed.specs.ends.Given.{HasSent}
-use Rattle.sealed.specs.ends.Plain.{handed_plain}
 
 -- ---- a connection from its beginning on
 
@@ -33,20 +28,16 @@ pub record IsCall (key : Option (List ℕ)) (random : List ℕ) (c : ClientStrea
 pub record StaysCall : Type 0 where
   pub begins : (key : Option (List ℕ)) (random : List ℕ)
       → IsCall key random (fresh_client_stream key random) [] [] [] []
-  pub receives :
-      (key : Option (List ℕ)) (random piece more came handed given sent : List ℕ)
+  pub receives : (key : Option (List ℕ)) (random piece more came handed given sent : List ℕ)
       (old new : ClientStreamOf) → Receives piece old new more
       → IsCall key random old came handed given sent
       → IsCall key random new (came ++ piece) (handed ++ more) given sent
-  pub gives :
-      (key : Option (List ℕ)) (random bytes came handed given sent : List ℕ) (count : ℕ)
+  pub gives : (key : Option (List ℕ)) (random bytes came handed given sent : List ℕ) (count : ℕ)
       (old new : ClientStreamOf) → Gives bytes count old new
       → IsCall key random old came handed given sent
       → IsCall key random new came handed (given ++ take count bytes) sent
-  pub sends :
-      (key : Option (List ℕ)) (random came handed given sent : List ℕ) (count : ℕ)
-      (c : ClientStreamOf)
-      → IsCall key random c came handed given sent
+  pub sends : (key : Option (List ℕ)) (random came handed given sent : List ℕ) (count : ℕ)
+      (c : ClientStreamOf) → IsCall key random c came handed given sent
       → IsCall key random (record c { output = drop count c.output }) came handed given
       (sent ++ take count c.output)
 
@@ -108,5 +99,4 @@ IsWrong None (Some own) random came handed =
 
 abbrev pub TellsTrouble : Type 0
 TellsTrouble = (key : Option (List ℕ)) (random came handed given sent : List ℕ) (c : ClientStreamOf)
-    → IsCall key random c came handed given sent
-    → IsWrong (trouble_of c) key random came handed
+    → IsCall key random c came handed given sent → IsWrong (trouble_of c) key random came handed

@@ -1,8 +1,7 @@
 -- What a caller without a key is handed on: all that comes, but of a desk that asks for a key (the
 -- project's own).
-use Rattle.std.specs.Prelude.{ℕ, ◌==◌, ◌&&◌, Bool, List, [], ◌++◌, length, take, nat_eq}
-use Rattle.std.specs.Prelude.{if◌then◌else◌}
-use Rattle.std.specs.List.{starts_with}
+use Rattle.std.specs.Prelude.{ℕ, ◌==◌, ◌&&◌, Bool, List, [], ◌++◌, length, take, if◌then◌else◌}
+use Rattle.std.specs.{Prelude.nat_eq, List.starts_with}
 use Rattle.seal.specs.Records.{mark}
 
 -- the four bytes that a desk's preface begins with go on from these, or are these

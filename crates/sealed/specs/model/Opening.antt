@@ -1,10 +1,8 @@
 -- How the caller of a desk begins to read a sealed stream.
 use Rattle.std.specs.Prelude.{◌≡◌, ℕ, List, Some}
-use Rattle.seal.specs.declared.channel.Direction.TheVariants.{ToClient}
-use Rattle.seal.specs.Records.{key_of}
+use Rattle.seal.specs.{declared.channel.Direction.TheVariants.ToClient, Records.key_of}
 use Rattle.sealed.specs.ClientSeals.{ClientSealOf, first_sealing}
-use Rattle.sealed.specs.Trials.{ReadsAll, comes_by}
-use Rattle.sealed.specs.Tunnels.{TunnelOf, channel_of}
+use Rattle.sealed.specs.{Trials.ReadsAll, Trials.comes_by, Tunnels.TunnelOf, Tunnels.channel_of}
 
 -- the connection is open, and this is the stream so far
 abbrev pub OpensTo : List ℕ → List ℕ → ClientSealOf → ClientSealOf → List ℕ → Type 0

@@ -2,15 +2,13 @@
 use Rattle.std.specs.Prelude.{◌≡◌, ℕ, ◌-◌, Bool, true, false, List, [], ◌++◌, length, min, take}
 use Rattle.std.specs.Prelude.{Some}
 use Rattle.seal.specs.Records.{preface_of}
-use Rattle.sealed.specs.declared.callers.Caller.TheVariants.{Visitor}
-use Rattle.sealed.specs.declared.callers.Access.{Access}
+use Rattle.sealed.specs.declared.callers.{Caller.TheVariants.Visitor, Access.Access}
 use Rattle.sealed.specs.declared.callers.Access.TheVariants.{Open, Locked}
-use Rattle.sealed.specs.declared.callers.StreamRefusal.TheVariants as refusal
 use Rattle.sealed.specs.ServerSeals.{ServerSealOf, IsOfLocks}
-use Rattle.sealed.specs.Trials.{TrialOf, Tries}
-use Rattle.sealed.specs.declared.front.StreamFront.{StreamFront}
+use Rattle.sealed.specs.{Trials.TrialOf, Trials.Tries, declared.front.StreamFront.StreamFront}
 use Rattle.sealed.specs.declared.front.StreamFront.TheVariants.{Short, Unsealed, Sealed}
 use Rattle.sealed.specs.Fronts.{IsShort, IsUnsealed}
+use Rattle.sealed.specs.declared.callers.StreamRefusal.TheVariants as refusal
 
 -- bytes of the piece were put after the held ones, up to 20
 pub record IsHeld (piece old new : List ℕ) (added : ℕ) : Type 0 where

@@ -3,6 +3,7 @@
 ghost use Rattle.sealed.specs.ends.Laws.{CallsSpeak, StaysCall, TellsTrouble};
 
 /// A connection of a caller goes on as one through each call from `Call::new` on: a law.
+#[tactic(auto, using(crate::proofs::ends::Going::stays_call))]
 pub fn stays_call()
     ensures { StaysCall }
 {}
@@ -15,6 +16,7 @@ pub fn calls_speak()
 {}
 
 /// A law: what is wrong by what came is reported exactly where it is so.
+#[tactic(auto, using(crate::proofs::ends::Telling::tells_trouble))]
 pub fn tells_trouble()
     ensures { TellsTrouble }
 {}

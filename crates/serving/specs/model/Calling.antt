@@ -2,18 +2,14 @@
 use Rattle.std.specs.Prelude.{◌≡◌, List}
 use Rattle.acceptor.specs.declared.message.Message.{Message}
 use Rattle.learner.specs.declared.event.DeskEvent.{DeskEvent}
-use Rattle.serving.specs.declared.calls.NodeAnswer.{NodeAnswer}
+use Rattle.serving.specs.{declared.calls.NodeAnswer.NodeAnswer, Answering.answer_of}
 use Rattle.store.specs.declared.home.Home.{Home}
 use Rattle.answers.specs.Seen.{Seen}
-use Rattle.serving.specs.Nodes.{Fate, reply}
-use Rattle.serving.specs.Answering.{answer_of}
-use Rattle.serving.specs.Making.{Handling}
-use Rattle.serving.specs.Serving.{waiting_after}
+use Rattle.serving.specs.{Nodes.Fate, Nodes.reply, Making.Handling, Serving.waiting_after}
 
 -- the call came to this fate
 pub record Calls (home : Home) (event : DeskEvent) (fate : Fate) (x y : Seen)
-    (ms more : List Message)
-    (answer : NodeAnswer) : Type 0 where
+    (ms more : List Message) (answer : NodeAnswer) : Type 0 where
   pub answer_is : answer ≡ answer_of (reply home x event fate).result
   pub seen : y ≡ (reply home x event fate).seen
   pub waits : more ≡ waiting_after ms (reply home x event fate).result

@@ -2,8 +2,7 @@
 use Rattle.std.specs.Prelude.{◌≡◌, ℕ, List, ◌++◌, map, Option}
 use Rattle.acceptor.specs.declared.message.Message.{Message}
 use Rattle.wire.specs.declared.values.Version.{Version}
-use Rattle.serving.specs.Adding.{Push, Hands}
-use Rattle.serving.specs.Serving.{pushed}
+use Rattle.serving.specs.{Adding.Push, Adding.Hands, Serving.pushed}
 
 -- a front part of the messages was pushed
 pub record PushesFront (version : Version) (hall : ℕ) (ms front rest : List Message)

@@ -4,10 +4,8 @@ use Rattle.acceptor.specs.declared.message.Message.{Message}
 use Rattle.learner.specs.declared.event.DeskEvent.{DeskEvent}
 use Rattle.store.specs.declared.home.Home.{Home}
 use Rattle.answers.specs.Seen.{Seen}
-use Rattle.serving.specs.Nodes.{Fate, reply}
-use Rattle.serving.specs.declared.calls.NodeAnswer.{NodeAnswer}
-use Rattle.serving.specs.Answering.{answer_of}
-use Rattle.serving.specs.Making.{Way, Outside, Makes}
+use Rattle.serving.specs.{Nodes.Fate, Nodes.reply, Making.Way, Making.Outside, Making.Makes}
+use Rattle.serving.specs.{declared.calls.NodeAnswer.NodeAnswer, Answering.answer_of}
 use Rattle.serving.specs.Serving.{Act, Called, Service, seen_after, call, push_all, take}
 
 -- the node, and the messages that wait
@@ -48,8 +46,7 @@ pub record Did {V : Type 0} {way : Way V} (home : Home) (all : Service → Servi
   pub made : Makes home.hall old new acts
 
 abbrev pub Does : {V : Type 0} → {way : Way V} → Home → (Service → Service) → Place → Place
-    → Outside way
-    → Outside way → Type 0
+    → Outside way → Outside way → Type 0
 Does home all first second old new =
     (acts : List Act) × (past : List Fate) × Did home all first second acts past old new
 
@@ -64,8 +61,7 @@ pub record DidPart {V : Type 0} {way : Way V} (home : Home) (all : Service → S
   pub made : Makes home.hall old new acts
 
 abbrev pub DoesPart : {V : Type 0} → {way : Way V} → Home → (Service → Service) → Place → Seen
-    → Outside way
-    → Outside way → Type 0
+    → Outside way → Outside way → Type 0
 DoesPart home all first last old new =
     (acts : List Act) × (past : List Fate) × (rest : Service → Service) × (second : Place)
     × DidPart home all first last acts past rest second old new

@@ -1,41 +1,27 @@
 -- What the calls of a session leave.
-use Rattle.std.specs.Prelude.{ℕ, List, [], ◌++◌, map, Option, None, Some}
+use Rattle.std.specs.Prelude.{ℕ, List, [], ◌++◌, map, Option, Some}
 use Rattle.std.specs.declared.io.Write.{Ghosts as WriteOf}
-use Rattle.acceptor.specs.declared.entry.Entry.{Entry}
 use Rattle.acceptor.specs.declared.message.Message.{Message}
 use Rattle.answers.specs.declared.desk.Desk.{Ghosts as DeskOf}
 use Rattle.learner.specs.declared.event.DeskEvent.{DeskEvent}
 use Rattle.learner.specs.declared.event.DeskEvent.TheVariants.{Deliver, Start}
 use Rattle.store.specs.declared.home.Home.{Home}
-use Rattle.wire.specs.declared.frame.Frame.{Frame}
-use Rattle.wire.specs.declared.frame.FrameBody.{FrameBody}
-use Rattle.wire.specs.declared.standing.Difference.{Difference}
-use Rattle.wire.specs.declared.values.Version.{Version}
-use Rattle.serving.specs.Adding.{Push, Hands}
-use Rattle.serving.specs.declared.calls.NodeAnswer.{NodeAnswer}
-use Rattle.serving.specs.declared.ends.FrameEnd.{FrameEnd}
-use Rattle.serving.specs.declared.ends.ConnectionEnd.{ConnectionEnd}
-use Rattle.serving.specs.declared.ends.FrameFault.TheVariants as fault
-use Rattle.serving.specs.declared.permission.Permission.{Permission}
-use Rattle.serving.specs.declared.peers.Peers.{Ghosts as PeersOf}
+use Rattle.wire.specs.declared.frame.{Frame.Frame, FrameBody.FrameBody}
+use Rattle.wire.specs.declared.{standing.Difference.Difference, values.Version.Version}
+use Rattle.serving.specs.{Adding.Push, Adding.Hands, Making.outside_of, Making.speaking}
+use Rattle.serving.specs.declared.{calls.NodeAnswer.NodeAnswer, permission.Permission.Permission}
+use Rattle.serving.specs.declared.ends.{FrameEnd.FrameEnd, ConnectionEnd.ConnectionEnd}
+use Rattle.serving.specs.declared.{peers.Peers.Ghosts as PeersOf, request.DecidedRun.DecidedRun}
 use Rattle.serving.specs.declared.request.Request.{Request}
-use Rattle.serving.specs.declared.request.Request.TheVariants.{Heard, Lagging, Learned, Entered}
-use Rattle.serving.specs.declared.request.Request.TheVariants.{Ticked}
-use Rattle.serving.specs.declared.request.DecidedRun.{DecidedRun}
-use Rattle.serving.specs.declared.session.Session.{Session}
+use Rattle.serving.specs.{declared.session.Session.Session, Nodes.Fate, Sessions.Line, Turns.Talk}
 use Rattle.serving.specs.Connection.{Begun, Sides, sides, ServesOne, FailsIn}
-use Rattle.serving.specs.Making.{outside_of, speaking}
-use Rattle.serving.specs.Nodes.{Fate}
-use Rattle.serving.specs.Serving.{Act, Service, answer_out, call, learn, push_all}
-use Rattle.serving.specs.Serving.{pushed, start_if_grown, take}
-use Rattle.serving.specs.Sessions.{Line, outside, sides_of}
+use Rattle.serving.specs.Serving.{Act, Service, answer_out, call, learn, push_all, pushed}
+use Rattle.serving.specs.{Sessions.outside, Sessions.sides_of}
 use Rattle.serving.specs.model.Calling.{Calls, IsCall, LosesMessages}
-use Rattle.serving.specs.model.Pieces.{IsBatch, IsPiece}
-use Rattle.serving.specs.model.Pushing.{PushesPart}
+use Rattle.serving.specs.model.{Pieces.IsBatch, Pieces.IsPiece, Pushing.PushesPart, Turning.EndsBy}
 use Rattle.serving.specs.model.Reaching.{Does, DoesCall, DoesPart, DoesTake, at}
-use Rattle.serving.specs.Turns.{Talk}
 use Rattle.serving.specs.model.Requests.{AnswersSome, FailsToAnswer}
-use Rattle.serving.specs.model.Turning.{EndsBy}
+use Rattle.serving.specs.declared.ends.FrameFault.TheVariants as fault
 
 -- ---- a call of the node
 
@@ -98,15 +84,6 @@ abbrev pub MeetsPart : {V U : Type 0} → DeskOf V → PeersOf U → Session →
     → Desks V U → Type 0
 MeetsPart d p s event a b = ComesPart d p s (λ t. push_all (call s.home event t)) a b
 
--- Start, where the log has more than this many entries
-abbrev pub Starts : {V U : Type 0} → DeskOf V → PeersOf U → Session → ℕ → Desks V U → Desks V U
-    → Type 0
-Starts d p s before a b = Comes d p s (start_if_grown s.home before) a b
-
-abbrev pub StartsPart : {V U : Type 0} → DeskOf V → PeersOf U → Session → ℕ → Desks V U
-    → Desks V U → Type 0
-StartsPart d p s before a b = ComesPart d p s (start_if_grown s.home before) a b
-
 -- an event, with its messages, and Start
 abbrev pub TakesIn : {V U : Type 0} → DeskOf V → PeersOf U → Session → DeskEvent → Desks V U
     → Desks V U → NodeAnswer → Type 0
@@ -114,10 +91,6 @@ TakesIn d p s event a b answer =
     (acts : List Act) × (past : List Fate)
     × DoesTake s.home event answer (d.seen a.node) (d.seen b.node) acts past
     (outside d p s.wire a.node a.peers) (outside d p s.wire b.node b.peers)
-
-abbrev pub TakesPart : {V U : Type 0} → DeskOf V → PeersOf U → Session → DeskEvent → Desks V U
-    → Desks V U → Type 0
-TakesPart d p s event a b = ComesPart d p s (take s.home event) a b
 
 -- Start after an entry, with its messages and those that wait
 abbrev pub StartsNext : {V U : Type 0} → DeskOf V → PeersOf U → Session → Desks V U
@@ -137,8 +110,7 @@ StartsNextPart d p s a b ms =
 
 -- each entry was delivered, whatever the version and the desks
 abbrev pub Delivers : {V : Type 0} → DeskOf V → Home → DecidedRun → V → List Message → V
-    → List Message
-    → Type 0
+    → List Message → Type 0
 Delivers d home run x ms y more =
     (wire : Version) (handed : Option (List Push))
     → Does home (learn home run.from run.to run.pos run.entries) (at (d.seen x) ms)
@@ -191,47 +163,6 @@ ServesPart d p s request a b =
     FailsToAnswer s.home (d.seen a.node) (d.seen b.node) request
     (outside d p s.wire a.node a.peers) (outside d p s.wire b.node b.peers)
 
-abbrev pub Hears : {V U : Type 0} → DeskOf V → PeersOf U → Session → Message → Desks V U
-    → Desks V U → Type 0
-Hears d p s message a b = Serves d p s (Heard message) a b None
-
-abbrev pub HearsPart : {V U : Type 0} → DeskOf V → PeersOf U → Session → Message → Desks V U
-    → Desks V U → Type 0
-HearsPart d p s message a b = ServesPart d p s (Heard message) a b
-
-abbrev pub Tells : {V U : Type 0} → DeskOf V → PeersOf U → Session → Message → Desks V U
-    → Desks V U → Type 0
-Tells d p s message a b = Serves d p s (Lagging message) a b None
-
-abbrev pub FailsToTell : {V U : Type 0} → DeskOf V → PeersOf U → Session → Message → Desks V U
-    → Desks V U → Type 0
-FailsToTell d p s message a b = ServesPart d p s (Lagging message) a b
-
-abbrev pub Learns : {V U : Type 0} → DeskOf V → PeersOf U → Session → DecidedRun → Desks V U
-    → Desks V U → Type 0
-Learns d p s run a b = Serves d p s (Learned run) a b None
-
-abbrev pub FailsToLearn : {V U : Type 0} → DeskOf V → PeersOf U → Session → DecidedRun → Desks V U
-    → Desks V U → Type 0
-FailsToLearn d p s run a b = ServesPart d p s (Learned run) a b
-
-abbrev pub Ticks : {V U : Type 0} → DeskOf V → PeersOf U → Session → Desks V U → Desks V U
-    → FrameBody
-    → Type 0
-Ticks d p s a b answer = Serves d p s Ticked a b (Some answer)
-
-abbrev pub TicksPart : {V U : Type 0} → DeskOf V → PeersOf U → Session → Desks V U → Desks V U
-    → Type 0
-TicksPart d p s a b = ServesPart d p s Ticked a b
-
-abbrev pub Enters : {V U : Type 0} → DeskOf V → PeersOf U → Session → Entry → Desks V U
-    → Desks V U → FrameBody → Type 0
-Enters d p s entry a b answer = Serves d p s (Entered entry) a b (Some answer)
-
-abbrev pub EntersPart : {V U : Type 0} → DeskOf V → PeersOf U → Session → Entry → Desks V U
-    → Desks V U → Type 0
-EntersPart d p s entry a b = ServesPart d p s (Entered entry) a b
-
 -- ---- frames
 
 -- what serving changes, where this was written of answers
@@ -262,9 +193,7 @@ abbrev pub ServesWaiting : {V U X : Type 0} → DeskOf V → PeersOf U → Write
 ServesWaiting d p w may result old new a b =
     (how : Option ConnectionEnd) × (begun : List Begun) × (left : List Frame)
     × IsBatch may how old.home (sides_of d p w old.wire a) (sides_of d p w old.wire b) old.waiting
-    begun
-    left old.frames new.frames
-    × EndsBy how result old new
+    begun left old.frames new.frames × EndsBy how result old new
 
 -- a piece of the stream, after what a connection held of the stream before
 abbrev pub ServesPiece : {V U X : Type 0} → DeskOf V → PeersOf U → WriteOf X → Permission

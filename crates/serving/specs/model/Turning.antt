@@ -1,16 +1,12 @@
 -- How a connection goes on from turn to turn, where its answers are written at once.
 use Rattle.std.specs.Prelude.{◌≡◌, ◌<◌, ℕ, ◌==◌, if◌then◌else◌, List, Option, None, Some}
-use Rattle.wire.specs.declared.fault.WireFault.{WireFault}
-use Rattle.wire.specs.Stream.{IsKept}
+use Rattle.wire.specs.{declared.fault.WireFault.WireFault, Stream.IsKept}
 use Rattle.store.specs.declared.home.Home.{Home}
-use Rattle.serving.specs.declared.ends.FrameEnd.{FrameEnd}
+use Rattle.serving.specs.declared.ends.{FrameEnd.FrameEnd, ConnectionEnd.ConnectionEnd}
+use Rattle.serving.specs.{Connection.Begun, Connection.Sides, Making.Way, model.Pieces.EndsInFrames}
+use Rattle.serving.specs.{Connection.Serves, Turns.Talk, Turns.WantsRead, Turns.broken_by}
 use Rattle.serving.specs.declared.ends.FrameEnd.TheVariants as close
-use Rattle.serving.specs.declared.ends.ConnectionEnd.{ConnectionEnd}
 use Rattle.serving.specs.declared.ends.ConnectionEnd.TheVariants as end
-use Rattle.serving.specs.Connection.{Begun, Sides, Serves}
-use Rattle.serving.specs.Making.{Way}
-use Rattle.serving.specs.Turns.{Talk, WantsRead, broken_by}
-use Rattle.serving.specs.model.Pieces.{EndsInFrames}
 
 -- how a frame that was served, and of which this is the number, leaves the connection
 abbrev pub end_after : Option FrameEnd → ℕ → Option ConnectionEnd
@@ -20,8 +16,7 @@ end_after None number = if number == 64 then Some end.Frames else None
 
 -- frames were served, and left the connection open or ended it
 abbrev pub Leaves : {V : Type 0} → {way : Way V} → Option ConnectionEnd → Home → Sides way
-    → Sides way
-    → List Begun → ℕ → Type 0
+    → Sides way → List Begun → ℕ → Type 0
 Leaves None home a b begun count = Serves home a b begun × (count < 64)
 Leaves (Some e) home a b begun count = EndsInFrames e home a b begun count
 

@@ -1,10 +1,8 @@
 -- A model of the code: how a record of comma-separated values grows, and what a writer holds.
 use Rattle.std.specs.Prelude.{◌≡◌, ℕ, List, [], ◌++◌, false, Vec}
-use Rattle.csv.specs.declared.record.ByteRecord.{ByteRecord}
-use Rattle.csv.specs.declared.writer.Writer.{Writer}
-use Rattle.csv.specs.Records.{fields_of, partial_of}
+use Rattle.csv.specs.{declared.record.ByteRecord.ByteRecord, Records.fields_of, Records.partial_of}
+use Rattle.csv.specs.{declared.writer.Writer.Writer, Writing.writer_under, Writing.writer_pending}
 use Rattle.csv.specs.Writing.{default_writer, writer_setup, fields_written, has_written}
-use Rattle.csv.specs.Writing.{writer_under, writer_pending}
 
 -- a record has these fields, and no other has begun
 abbrev pub HasFields : ByteRecord → List (List ℕ) → Type 0

@@ -2,11 +2,9 @@
 use Rattle.std.specs.Prelude.{◌≡◌, ℕ, Bool, List, Some}
 use Rattle.formats.specs.Events.{attempts_of, unit_of}
 use Rattle.rounds.specs.declared.table.EntrantRow.{EntrantRow}
-use Rattle.sheets.specs.declared.going_on.AdvancingEntrants.{AdvancingEntrants}
-use Rattle.sheets.specs.declared.shown.SheetRound.{SheetRound}
-use Rattle.sheets.specs.Sheet.{name_text, entrant_fields, line_of, record_of, text_of_round}
-use Rattle.sheets.specs.Sheet.{table_of_round, is_marked}
-use Rattle.sheets.specs.Going.{Tells}
+use Rattle.sheets.specs.{declared.going_on.AdvancingEntrants.AdvancingEntrants, Going.Tells}
+use Rattle.sheets.specs.{declared.shown.SheetRound.SheetRound, Sheet.record_of, Sheet.text_of_round}
+use Rattle.sheets.specs.Sheet.{name_text, entrant_fields, line_of, table_of_round, is_marked}
 use Rattle.commands.specs.Accepted.{round_of, seen_of}
 
 -- it is a round that was opened, with its settings and its table

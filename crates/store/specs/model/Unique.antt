@@ -2,25 +2,16 @@
 use Rattle.std.proofs.Common.{◌≡◌, ℕ, zero, suc, pos, drop, get_or, ap₂, ◌+◌, ◌<◌, List, [], ◌∷◌}
 use Rattle.std.proofs.Common.{length, Option, Some, None, false, refl, sym, ap, subst, ◌∙◌, arith}
 use Rattle.std.proofs.Common.{IsPermutation, Less, IsSorted, IsTrue}
-use Rattle.std.specs.List.{AllByRecursion}
-use Rattle.std.specs.Ordering.{nat_cmp, on, is_lt}
-use Rattle.std.specs.Cmp.{on_total, nat_cmp_total}
-use Rattle.std.proofs.lemmas.Bool.Decides.{nat_tests}
+use Rattle.std.specs.{List.AllByRecursion, Ordering.nat_cmp, Cmp.on_total, Cmp.nat_cmp_total}
+use Rattle.std.{specs.Ordering.on, specs.Ordering.is_lt, proofs.lemmas.Bool.Decides.nat_tests}
 use Rattle.std.proofs.lemmas.List.Sorted.{IsPermutation-sym, IsPermutation-trans}
 use Rattle.sqlite_keyed.proofs.SortLemmas.{sorted_unique}
-use Rattle.sqlite.specs.declared.types.Value.{Value}
-use Rattle.sqlite.specs.declared.types.Value.TheVariants.{Int}
+use Rattle.sqlite.specs.declared.types.Value.{Value, TheVariants.Int}
 use Rattle.sqlite.specs.Order.{Row, column}
-use Rattle.sqlite.specs.Tree.{Trees, IsAscending}
+use Rattle.sqlite.specs.{Tree.Trees, Tree.IsAscending, Effect.Database, State.State}
 use Rattle.acceptor.specs.declared.entry.Entry.{Entry}
-use Rattle.store.specs.declared.home.Home.{Home}
-use Rattle.acceptor.specs.declared.stored.Vote.{Vote}
-use Rattle.acceptor.specs.declared.stored.Stored.{Stored}
-use Rattle.acceptor.specs.declared.stored.Change.{Change}
-use Rattle.sqlite.specs.Effect.{Database}
-use Rattle.sqlite.specs.State.{State}
-use Rattle.store.specs.Kept.{Keeps, MayBreak}
-use Rattle.store.specs.Keeping.{HoldsOnly}
+use Rattle.store.specs.{declared.home.Home.Home, Kept.Keeps, Kept.MayBreak, Keeping.HoldsOnly}
+use Rattle.acceptor.specs.declared.stored.{Vote.Vote, Stored.Stored, Change.Change}
 use Rattle.store.specs.Changes.{Leads, stored_after_all, log_after_all}
 use Rattle.store.specs.Waiting.{KeepsBefore, MayLeaveBefore}
 use Rattle.store.specs.Holding.{Holds, desk_values, vote_values, log_values}
@@ -83,8 +74,7 @@ told at (x ∷ a) (y ∷ b) e =
 
 pub same_log : (a b : List Entry) → IsPermutation (log_values 0 a) (log_values 0 b) → a ≡ b
 same_log a b same =
-    told 0 a b
-    (sym
+    told 0 a b (sym
     (sorted_unique (on at_of nat_cmp) (on_total at_of nat_cmp_total) (log_values 0 a)
     (log_values 0 b) (rises 0 a) same (in_order b)))
 
@@ -106,8 +96,7 @@ same_vote (Some v) (Some w) e =
     let d : v.ballot.desk ≡ w.ballot.desk = cc in
     let i : v.entry.id ≡ w.entry.id = cc in
     let t : v.entry.text ≡ w.entry.text = cc in
-    ap Some
-    (ap (λ n. vote_of n v.ballot.number v.ballot.desk v.entry.id v.entry.text) p
+    ap Some (ap (λ n. vote_of n v.ballot.number v.ballot.desk v.entry.id v.entry.text) p
     ∙ ap (λ n. vote_of w.pos n v.ballot.desk v.entry.id v.entry.text) r
     ∙ ap (λ n. vote_of w.pos w.ballot.number n v.entry.id v.entry.text) d
     ∙ ap (λ n. vote_of w.pos w.ballot.number w.ballot.desk n v.entry.text) i
@@ -160,8 +149,7 @@ leads_nowhere changes s log none =
 -- While a connection keeps a state, a crash leaves that state and no other.
 pub alone : (c : State) (home : Home) (s : Stored) (log : List Entry)
     → ((db : Trees) → IsTrue c.is_open → c.may_leave db → db ≡ c.committed.trees)
-    → (IsTrue c.is_open → c.may_leave c.committed.trees)
-    → Keeps home s log c
+    → (IsTrue c.is_open → c.may_leave c.committed.trees) → Keeps home s log c
     → HoldsOnly (λ t more. (db : Trees) × c.may_leave db × Holds home db t more) (MayBreak c home) s
     log
 alone c home s log settles stays k =
@@ -182,10 +170,8 @@ alone c home s log settles stays k =
 
 -- and so it is of the state after the changes that wait
 pub alone_after : (c : State) (home : Home) (len : ℕ) (changes : List Change) (s : Stored)
-    (log : List Entry)
-    → ((db : Trees) → IsTrue c.is_open → c.may_leave db → db ≡ c.committed.trees)
-    → (IsTrue c.is_open → c.may_leave c.committed.trees)
-    → KeepsBefore home len changes c s log
+    (log : List Entry) → ((db : Trees) → IsTrue c.is_open → c.may_leave db → db ≡ c.committed.trees)
+    → (IsTrue c.is_open → c.may_leave c.committed.trees) → KeepsBefore home len changes c s log
     → HoldsOnly (MayLeaveBefore changes c home) (MayBreak c home) s log
 alone_after c home len changes s log settles stays k =
     let first = alone c home k.before k.past settles stays k.keeps in

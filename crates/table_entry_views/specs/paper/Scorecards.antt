@@ -1,19 +1,15 @@
 -- Blank scorecards of a round (the project's own).
-use Rattle.std.specs.Prelude.{◌≡◌, ℕ, List, [], ◌∷◌, ◌++◌, codes, decimal, flat_map}
-use Rattle.std.specs.Prelude.{Option, None, Some, option_map, unwrap_or}
-use Rattle.markup.specs.board_page.Escaped.{escaped}
+use Rattle.std.specs.Prelude.{◌≡◌, ℕ, List, [], ◌∷◌, ◌++◌, codes, decimal, flat_map, Option, None}
+use Rattle.std.specs.Prelude.{Some, option_map, unwrap_or}
+use Rattle.markup.specs.{board_page.Escaped.escaped, Pieces.fill}
 use Rattle.commands.specs.Accepted.{name_of}
 use Rattle.rounds.specs.Tables.{Table, standings}
 use Rattle.round_counts.specs.Counts.{numbers_in}
 use Rattle.round_words.specs.Words.{round_words, settings_words}
-use Rattle.texts.specs.declared.command.Command.{Command}
-use Rattle.texts.specs.declared.command.RoundId.{RoundId}
-use Rattle.texts.specs.declared.command.Settings.{Settings}
-use Rattle.markup.specs.Pieces.{fill}
-use Rattle.table_entry_views.specs.paper.Frame.{top}
+use Rattle.texts.specs.declared.command.{Command.Command, RoundId.RoundId, Settings.Settings}
+use Rattle.table_entry_views.specs.{paper.Frame.top, declared.paper.frame.TheConstants.BOTTOM}
 use Rattle.table_entry_views.specs.declared.paper.blank_cards.TheConstants.{ATTEMPT, CARD_START}
 use Rattle.table_entry_views.specs.declared.paper.blank_cards.TheConstants.{CARD_TABLE, PERSON}
-use Rattle.table_entry_views.specs.declared.paper.frame.TheConstants.{BOTTOM}
 
 abbrev pub attempt_row : ℕ → List ℕ
 attempt_row attempt = fill ATTEMPT.now (decimal attempt ∷ [])

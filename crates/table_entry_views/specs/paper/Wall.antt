@@ -1,19 +1,14 @@
 -- The sheet of a round for the wall: the round as the board shows it (the project's own).
-use Rattle.std.specs.Prelude.{◌≡◌, ℕ, List, [], ◌∷◌, ◌++◌, codes, length}
-use Rattle.std.specs.Prelude.{Option, None, Some}
+use Rattle.std.specs.Prelude.{◌≡◌, ℕ, List, [], ◌∷◌, ◌++◌, codes, length, Option, None, Some}
 use Rattle.acceptor.specs.declared.entry.Entry.{Entry}
 use Rattle.answers.specs.Answers.{texts}
 use Rattle.board_rounds.specs.Rounds.{section}
-use Rattle.markup.specs.board_page.Escaped.{escaped}
+use Rattle.markup.specs.{board_page.Escaped.escaped, Pieces.fill}
 use Rattle.commands.specs.History.{history}
 use Rattle.rounds.specs.Tables.{Table}
-use Rattle.texts.specs.declared.command.Command.{Command}
-use Rattle.texts.specs.declared.command.RoundId.{RoundId}
-use Rattle.texts.specs.declared.command.Settings.{Settings}
-use Rattle.markup.specs.Pieces.{fill}
-use Rattle.table_entry_views.specs.paper.Frame.{top}
+use Rattle.texts.specs.declared.command.{Command.Command, RoundId.RoundId, Settings.Settings}
+use Rattle.table_entry_views.specs.{paper.Frame.top, declared.paper.frame.TheConstants.BOTTOM}
 use Rattle.table_entry_views.specs.declared.paper.wall.TheConstants.{HALL, SIGNATURE}
-use Rattle.table_entry_views.specs.declared.paper.frame.TheConstants.{BOTTOM}
 
 -- the accepted commands of a log
 abbrev pub accepted_in : List Entry → List Command

@@ -3,9 +3,8 @@
 ghost use Rattle.std.specs.Prelude.{◌≡◌, ◌++◌, IfOk, OnOk, flat_map, option_map};
 ghost use Rattle.commands.specs.Accepted.{round_by};
 ghost use Rattle.table_entry_views.specs.paper.Wall.{accepted_in};
-ghost use Rattle.table_entry_views.specs.paper.Scorecards.{attempt_row, blank_card, card_start};
-ghost use Rattle.table_entry_views.specs.paper.Scorecards.{card_of};
-ghost use Rattle.table_entry_views.specs.paper.Scorecards.{person, cards_page, IsScorecards};
+ghost use Rattle.table_entry_views.specs.paper.Scorecards.{attempt_row, blank_card, IsScorecards};
+ghost use Rattle.table_entry_views.specs.paper.Scorecards.{card_start, card_of, person, cards_page};
 
 use crate::paper::frame::{push_bottom, push_top};
 use attempts::NoMemory;

@@ -1,15 +1,13 @@
 -- What each code means, in a few words: this project's own.
 use Rattle.std.specs.Prelude.{ℕ, List, codes}
-use Rattle.texts.specs.declared.answer.Code.{Code}
-use Rattle.texts.specs.declared.answer.Code.TheVariants.{Unread, Repeat, UnknownCompetitor}
-use Rattle.texts.specs.declared.answer.Code.TheVariants.{NameTaken, RoundUnknown, RoundOpen}
-use Rattle.texts.specs.declared.answer.Code.TheVariants.{RoundsRule, FormatNotAllowed}
-use Rattle.texts.specs.declared.answer.Code.TheVariants.{CutoffNotAllowed, LimitNotAllowed}
-use Rattle.texts.specs.declared.answer.Code.TheVariants.{NoScramble, ScrambleThere, WrongOutcome}
-use Rattle.texts.specs.declared.answer.Code.TheVariants.{Closed, Already, Full, NotEntered}
-use Rattle.texts.specs.declared.answer.Code.TheVariants.{OutOfOrder, NoMoreAttempts, NoSuchAttempt}
-use Rattle.texts.specs.declared.answer.Code.TheVariants.{CutoffLost, Unfinished, HasAttempts}
-use Rattle.texts.specs.declared.answer.Code.TheVariants.{NotClosed, Changed}
+use Rattle.texts.specs.declared.answer.Code.{Code, TheVariants.Closed}
+use Rattle.texts.specs.declared.answer.Code.TheVariants.{Unread, RoundsRule, NoScramble, NotEntered}
+use Rattle.texts.specs.declared.answer.Code.TheVariants.{Repeat, OutOfOrder, CutoffLost, Unfinished}
+use Rattle.texts.specs.declared.answer.Code.TheVariants.{UnknownCompetitor, FormatNotAllowed, Full}
+use Rattle.texts.specs.declared.answer.Code.TheVariants.{NameTaken, RoundOpen, NotClosed, Changed}
+use Rattle.texts.specs.declared.answer.Code.TheVariants.{RoundUnknown, WrongOutcome, NoSuchAttempt}
+use Rattle.texts.specs.declared.answer.Code.TheVariants.{CutoffNotAllowed, LimitNotAllowed, Already}
+use Rattle.texts.specs.declared.answer.Code.TheVariants.{ScrambleThere, NoMoreAttempts, HasAttempts}
 
 abbrev pub meaning_of : Code → List ℕ
 meaning_of Unread = codes "not a command of this edition"

@@ -1,8 +1,6 @@
 -- A model of the code: its test of digits, in front of its sum of them.
 use Rattle.std.specs.Prelude.{ℕ, Bool, not, ◌==◌, ◌&&◌, ◌||◌, nat_lt, nat_le, List, length}
-use Rattle.std.specs.Prelude.{slice_index}
-use Rattle.std.specs.Char.{is_ascii_digit}
-use Rattle.std.specs.List.{list_all}
+use Rattle.std.specs.{Prelude.slice_index, Char.is_ascii_digit, List.list_all}
 
 -- one to nineteen digits, and no zero in front of another
 abbrev pub is_numeral : List ℕ → Bool

@@ -1,18 +1,12 @@
 -- A model of the code: what its readers of fields returned, beside what the fields are.
 use Rattle.std.specs.Prelude.{◌≡◌, ◌≤◌, ◌<◌, ◌⊎◌, ℕ, ◌++◌, IsTrue, List, Option, Some, None}
 use Rattle.std.specs.Prelude.{is_some, Result, Ok, Err}
-use Rattle.std.specs.Borrow.{Bor}
-use Rattle.std.specs.List.{list_any}
-use Rattle.std.specs.Option.{option_copied}
-use Rattle.texts.specs.declared.command.Entered.{Entered}
-use Rattle.texts.specs.declared.command.RemarkedCommand.{RemarkedCommand}
-use Rattle.texts.specs.declared.reading.CommandFault.{CommandFault}
+use Rattle.std.specs.{Borrow.Bor, List.list_any, Option.option_copied}
+use Rattle.texts.specs.declared.command.{Entered.Entered, RemarkedCommand.RemarkedCommand}
+use Rattle.texts.specs.declared.{reading.CommandFault.CommandFault, table.FieldKind.FieldKind}
+use Rattle.texts.specs.{declared.value.FieldValue.FieldValue, Fields.IsSolution}
+use Rattle.texts.specs.{Reading.takes_memory, Table.is_kept, Table.is_rest, Table.kept_at}
 use Rattle.texts.specs.declared.reading.CommandFault.TheVariants as fault
-use Rattle.texts.specs.declared.table.FieldKind.{FieldKind}
-use Rattle.texts.specs.declared.value.FieldValue.{FieldValue}
-use Rattle.texts.specs.Fields.{IsSolution}
-use Rattle.texts.specs.Reading.{takes_memory}
-use Rattle.texts.specs.Table.{is_kept, is_rest, kept_at}
 
 -- a field that was read, and what is left of the text after it
 abbrev pub Next : Type 0

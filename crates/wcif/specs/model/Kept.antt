@@ -1,19 +1,11 @@
 -- A model of the code: what is kept of the persons so far.
-use Rattle.std.specs.Prelude.{◌≡◌, ◌≤◌, ℕ, List, find, count_by, unwrap_or, nat_eq}
-use Rattle.std.specs.List.{list_any}
-use Rattle.std.specs.Option.{option_map}
+use Rattle.std.specs.Prelude.{◌≡◌, ◌≤◌, ℕ, List, find, count_by, unwrap_or, nat_eq, [], ◌∷◌, ◌++◌}
+use Rattle.std.specs.{List.list_any, Option.option_map, HashSet.contains_text}
 use Rattle.std.specs.HashMap.{get, get_by_text}
-use Rattle.std.specs.HashSet.{contains_text}
-use Rattle.serde_json.specs.Data.{Data}
-use Rattle.serde_json.specs.View.{view}
-use Rattle.wcif.specs.declared.options.SameNames.{SameNames}
-use Rattle.wcif.specs.declared.people.NameCounts.{NameCounts}
-use Rattle.wcif.specs.declared.people.Numbers.{Numbers}
-use Rattle.wcif.specs.declared.people.Names.{Names}
-use Rattle.wcif.specs.declared.people.People.{People}
-use Rattle.std.specs.Prelude.{[], ◌∷◌, ◌++◌}
-use Rattle.wcif.specs.declared.fault.CompetitionFault.{CompetitionFault}
-use Rattle.wcif.specs.Faults.{person_faults}
+use Rattle.serde_json.specs.{Data.Data, View.view}
+use Rattle.wcif.specs.declared.{options.SameNames.SameNames, people.People.People}
+use Rattle.wcif.specs.declared.people.{NameCounts.NameCounts, Numbers.Numbers, Names.Names}
+use Rattle.wcif.specs.{declared.fault.CompetitionFault.CompetitionFault, Faults.person_faults}
 use Rattle.wcif.specs.Told.{place}
 use Rattle.wcif.specs.Persons.{has_given, has_number, has_name, last_number}
 

@@ -1,60 +1,24 @@
 -- How deep the results of a meet nest.
-use Rattle.std.proofs.Common.{◌≡◌, refl, ℕ, suc, ◌≤◌, max, Bool, true, false, cond}
-use Rattle.std.proofs.Common.{List, [], ◌∷◌, ◌++◌, map, flat_map, arith, Option, None, Some}
-use Rattle.std.specs.Option.{option_map}
-use Rattle.std.specs.Prelude.{option_to_list}
-use Rattle.std.specs.Str.{is_utf8}
-use Rattle.std.proofs.lemmas.Bool.Decides.{nat_tests}
-use Rattle.json.specs.Json.{Json, max_depth, null, string}
-use Rattle.json.specs.Tree.{depth, items_depth}
-use Rattle.json.specs.Value.{items_of}
+use Rattle.wcif_results.proofs.Depths.{all_within, lists_within, one_within, ranking_depth}
+use Rattle.std.proofs.Common.{◌≡◌, refl, ℕ, suc, ◌≤◌, max, Bool, true, false, cond, List, [], ◌∷◌}
+use Rattle.std.proofs.Common.{map, arith, Option, None, Some}
+use Rattle.std.{specs.Str.is_utf8, proofs.lemmas.Bool.Decides.nat_tests}
+use Rattle.json.specs.Json.{max_depth, null, string}
+use Rattle.json.specs.{Tree.depth, Tree.items_depth, Value.items_of}
 use Rattle.attempts.specs.declared.Value.{Value}
 use Rattle.commands.specs.Accepted.{name_of, round_of, seen_of}
-use Rattle.formats.specs.declared.advance.Advance.{Advance}
-use Rattle.formats.specs.declared.advance.Advance.TheVariants as advance
-use Rattle.formats.specs.declared.events.Event.{Event}
-use Rattle.formats.specs.declared.results.Averaged.{Averaged}
-use Rattle.formats.specs.declared.results.Averaged.TheVariants as averaged
-use Rattle.formats.specs.Events.{all_events}
-use Rattle.formats.specs.Results.{average_of}
+use Rattle.formats.specs.declared.{advance.Advance.Advance, events.Event.Event}
+use Rattle.formats.specs.{declared.results.Averaged.Averaged, Events.all_events, Results.average_of}
 use Rattle.rounds.specs.Tables.{Entrant, Table, entrant, place, standings}
 use Rattle.sheets.specs.Sheet.{is_marked}
-use Rattle.texts.specs.declared.command.Command.{Command}
-use Rattle.texts.specs.declared.command.Settings.{Settings}
-use Rattle.wcif_results.specs.Results.{ranking_json}
+use Rattle.texts.specs.declared.command.{Command.Command, Settings.Settings}
 use Rattle.wcif_results.specs.results_json.Entrants.{entrant_json, entrant_list, entrants_json}
 use Rattle.wcif_results.specs.results_json.Meets.{event_list, meet_json, rounds_json}
 use Rattle.wcif_results.specs.results_json.Rounds.{round_json, round_list}
 use Rattle.wcif_results.specs.results_json.Values.{advance_json, average_json, best_json}
-use Rattle.wcif_results.specs.results_json.Values.{cutoff_json}
-use Rattle.wcif_results.specs.results_json.Values.{limit_json, name_json, value_json}
-
--- lists of values that nest at most so deep
-all_within : (k : ℕ) (js ks : List Json) → items_depth (items_of js) ≤ k
-    → items_depth (items_of ks) ≤ k → items_depth (items_of (js ++ ks)) ≤ k
-all_within k [] ks p q = q
-all_within k (j ∷ js) ks p q = go _ _ _ p (all_within k js ks (rest _ _ p) q)
-  where
-    rest : (a b : ℕ) → max a b ≤ k → b ≤ k
-    rest a b h = grind (arith, nat_tests)
-
-    go : (a b c : ℕ) → max a b ≤ k → c ≤ k → max a c ≤ k
-    go a b c h l = grind (arith, nat_tests)
-
-lists_within : {X : Type 0} (k : ℕ) (f : X → List Json)
-    → ((x : X) → items_depth (items_of (f x)) ≤ k)
-    → (xs : List X) → items_depth (items_of (flat_map f xs)) ≤ k
-lists_within k f h [] = omega arith
-lists_within k f h (x ∷ xs) =
-    all_within k (f x) (flat_map f xs) (h x) (lists_within k f h xs)
-
-one_within : {X : Type 0} (k : ℕ) (f : X → Json) → ((x : X) → depth (f x) ≤ k) → (o : Option X)
-    → items_depth (items_of (option_to_list (option_map f o))) ≤ k
-one_within k f h None = omega arith
-one_within k f h (Some x) = go _ (h x)
-  where
-    go : (n : ℕ) → n ≤ k → max n 0 ≤ k
-    go n p = grind (arith, nat_tests)
+use Rattle.wcif_results.specs.results_json.Values.{cutoff_json, limit_json, name_json, value_json}
+use Rattle.formats.specs.declared.advance.Advance.TheVariants as advance
+use Rattle.formats.specs.declared.results.Averaged.TheVariants as averaged
 
 -- an entrant
 
@@ -70,24 +34,19 @@ name_depth (Some text) = step (is_utf8 text)
     step true = refl
     step false = refl
 
-place_depth : (vs : List Value) (n : ℕ) → depth (ranking_json vs n) ≡ 0
-place_depth [] n = refl
-place_depth (v ∷ vs) n = refl
-
 best_depth : (vs : List Value) → depth (best_json vs) ≡ 0
 best_depth [] = refl
 best_depth (v ∷ vs) = refl
 
 average_depth : (a : Averaged) → depth (average_json a) ≡ 0
 average_depth averaged.Missing = refl
-average_depth (averaged.Number n) = refl
-average_depth averaged.Dnf = refl
+average_depth _ = refl
 
 entrant_depth : (cs : List Command) (settings : Settings) (t : Table) (marks : ℕ → Bool) (n : ℕ)
     (e : Entrant) → depth (entrant_json cs settings t marks n e) ≤ 2
 unfolding entrant_json
 entrant_depth cs settings t marks n e =
-    go _ _ _ _ _ (name_depth (name_of cs n)) (place_depth e.values (place t e))
+    go _ _ _ _ _ (name_depth (name_of cs n)) (ranking_depth e.values (place t e))
     (values_depth e.values) (best_depth e.values)
     (average_depth (average_of t.format t.unit e.values))
   where
@@ -99,9 +58,8 @@ entrants_depth : (cs : List Command) (settings : Settings) (t : Table) (marks : 
     → depth (entrants_json cs settings t marks) ≤ 3
 unfolding entrants_json
 entrants_depth cs settings t marks =
-    let all = lists_within 2 (entrant_list cs settings t marks)
-    (λ n. one_within 2 (entrant_json cs settings t marks n) (entrant_depth cs settings t marks n)
-    (entrant t n))
+    let all = lists_within 2 (entrant_list cs settings t marks) (λ n. one_within 2
+    (entrant_json cs settings t marks n) (entrant_depth cs settings t marks n) (entrant t n))
     (standings t) in
     omega (arith, all)
 
@@ -139,10 +97,9 @@ opened_depth cs event n =
 
 event_depth : (cs : List Command) (event : Event) → items_depth (items_of (event_list cs event)) ≤ 4
 event_depth cs event =
-    all_within 4 (round_list cs event 1) _ (opened_depth cs event 1)
-    (all_within 4 (round_list cs event 2) _ (opened_depth cs event 2)
-    (all_within 4 (round_list cs event 3) (round_list cs event 4) (opened_depth cs event 3)
-    (opened_depth cs event 4)))
+    all_within 4 (round_list cs event 1) _ (opened_depth cs event 1) (all_within 4
+    (round_list cs event 2) _ (opened_depth cs event 2) (all_within 4 (round_list cs event 3)
+    (round_list cs event 4) (opened_depth cs event 3) (opened_depth cs event 4)))
 
 rounds_depth : (cs : List Command) → depth (rounds_json cs) ≤ 5
 unfolding rounds_json

@@ -3,8 +3,7 @@ use Rattle.std.specs.Prelude.{◌≡◌, ℕ, Bool, Some}
 use Rattle.commands.specs.Accepted.{round_of, seen_of}
 use Rattle.json.specs.Json.{Json}
 use Rattle.rounds.specs.Tables.{Entrant}
-use Rattle.sheets.specs.declared.going_on.AdvancingEntrants.{AdvancingEntrants}
-use Rattle.sheets.specs.Going.{Tells}
+use Rattle.sheets.specs.{declared.going_on.AdvancingEntrants.AdvancingEntrants, Going.Tells}
 use Rattle.sheets.specs.Sheet.{is_marked}
 use Rattle.wcif_results.specs.declared.results_json.rounds_written.ExportedRound.{ExportedRound}
 use Rattle.wcif_results.specs.results_json.Entrants.{entrant_json}

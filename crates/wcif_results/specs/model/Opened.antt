@@ -1,8 +1,7 @@
 -- A model of the code: what is kept of a round of a meet, and of one of a file.
 use Rattle.std.specs.Prelude.{ℕ, List}
-use Rattle.wcif_results.specs.MeetRounds.{MeetRound as Round}
+use Rattle.wcif_results.specs.{MeetRounds.MeetRound as Round, declared.reading.HeldRound.HeldRound}
 use Rattle.wcif_results.specs.declared.meet_rounds.MeetRound.{MeetRound}
-use Rattle.wcif_results.specs.declared.reading.HeldRound.{HeldRound}
 
 abbrev pub round_view : MeetRound → Round
 round_view r =

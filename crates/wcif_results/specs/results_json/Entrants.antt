@@ -6,21 +6,17 @@ use Rattle.json.specs.Value.{items_of}
 use Rattle.commands.specs.Accepted.{name_of}
 use Rattle.formats.specs.Results.{average_of}
 use Rattle.rounds.specs.Tables.{Entrant, Table, entrant, place, standings}
-use Rattle.texts.specs.declared.command.Command.{Command}
-use Rattle.texts.specs.declared.command.Settings.{Settings}
-use Rattle.wcif_results.specs.Results.{ranking_json}
+use Rattle.texts.specs.declared.command.{Command.Command, Settings.Settings}
+use Rattle.wcif_results.specs.{Results.ranking_json, results_json.Values.values_json}
 use Rattle.wcif_results.specs.results_json.Values.{average_json, best_json, name_json, natural}
-use Rattle.wcif_results.specs.results_json.Values.{values_json}
 
 -- the members of the entrant with a number: number and name; the place, once there is an attempt;
 -- the attempts, the best and the average; and whether the sheet marks it as one who advances
 abbrev pub entrant_members : List Command → Settings → Table → (ℕ → Bool) → ℕ → Entrant → Members
 entrant_members cs settings t marks n e =
-    member (codes "number") (natural n)
-    (member (codes "name") (name_json (name_of cs n))
+    member (codes "number") (natural n) (member (codes "name") (name_json (name_of cs n))
     (member (codes "place") (ranking_json e.values (place t e))
-    (member (codes "attempts") (values_json e.values)
-    (member (codes "best") (best_json e.values)
+    (member (codes "attempts") (values_json e.values) (member (codes "best") (best_json e.values)
     (member (codes "average") (average_json (average_of t.format t.unit e.values))
     (member (codes "advances") (boolean (marks n)) no_members))))))
 

@@ -3,8 +3,7 @@
 use Rattle.std.specs.Prelude.{List, ◌++◌, codes, flat_map}
 use Rattle.json.specs.Json.{Json, array, object, no_members, member}
 use Rattle.json.specs.Value.{items_of}
-use Rattle.formats.specs.declared.events.Event.{Event}
-use Rattle.formats.specs.Events.{all_events}
+use Rattle.formats.specs.{declared.events.Event.Event, Events.all_events}
 use Rattle.texts.specs.declared.command.Command.{Command}
 use Rattle.wcif_results.specs.results_json.Rounds.{round_list}
 

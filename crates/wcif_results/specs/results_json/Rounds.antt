@@ -6,11 +6,9 @@ use Rattle.attempts.specs.declared.Unit.{Unit as Measure}
 use Rattle.attempts.specs.declared.Unit.TheVariants.{Time, Moves, Multi}
 use Rattle.commands.specs.Accepted.{round_of, seen_of}
 use Rattle.sheets.specs.Sheet.{is_marked}
-use Rattle.formats.specs.declared.events.Event.{Event}
-use Rattle.formats.specs.Events.{event_name, format_name}
+use Rattle.formats.specs.{declared.events.Event.Event, Events.event_name, Events.format_name}
 use Rattle.rounds.specs.Tables.{Table}
-use Rattle.texts.specs.declared.command.Command.{Command}
-use Rattle.texts.specs.declared.command.Settings.{Settings}
+use Rattle.texts.specs.declared.command.{Command.Command, Settings.Settings}
 use Rattle.wcif_results.specs.results_json.Entrants.{entrants_json}
 use Rattle.wcif_results.specs.results_json.Values.{advance_json, cutoff_json, limit_json, natural}
 
@@ -33,8 +31,7 @@ later_members cs marks (settings, t) =
 
 abbrev pub round_members : List Command → Event → ℕ → Settings × Table → Members
 round_members cs event n round =
-    member (codes "event") (string (event_name event))
-    (member (codes "round") (natural n)
+    member (codes "event") (string (event_name event)) (member (codes "round") (natural n)
     (later_members cs (is_marked round.1 (seen_of cs event n)) round))
 
 unfoldable pub round_json : List Command → Event → ℕ → Settings × Table → Json

@@ -1,19 +1,16 @@
 -- Numbers of results and settings as JSON values. Times are in hundredths of a second, results of
 -- fewest moves in moves and their means in hundredths of a move, and a result of multi-blind is the
 -- WCA's number 0DDTTTTTMM. -1 is DNF, and -2 is DNS. null says that there is none.
-use Rattle.std.specs.Prelude.{ℕ, List, [], ◌∷◌, map, codes, decimal, if◌then◌else◌}
-use Rattle.std.specs.Prelude.{Option, None, Some}
-use Rattle.std.specs.Str.{is_utf8}
+use Rattle.std.specs.Prelude.{ℕ, List, [], ◌∷◌, map, codes, decimal, if◌then◌else◌, Option, None}
+use Rattle.std.specs.{Prelude.Some, Str.is_utf8}
 use Rattle.json.specs.Json.{Json, null, number, string, array, object, no_members, member}
 use Rattle.json.specs.Value.{items_of}
 use Rattle.attempts.specs.declared.Value.{Value}
-use Rattle.formats.specs.declared.advance.Advance.{Advance}
+use Rattle.formats.specs.declared.{advance.Advance.Advance, results.Averaged.Averaged}
 use Rattle.formats.specs.declared.advance.Advance.TheVariants.{Final, Top, Percent}
-use Rattle.formats.specs.declared.results.Averaged.{Averaged}
-use Rattle.formats.specs.declared.results.Averaged.TheVariants as averaged
 use Rattle.formats.specs.Results.{best_of}
-use Rattle.wcif_results.specs.Encoding.{attempt_result, average_result}
-use Rattle.wcif_results.specs.Results.{integer}
+use Rattle.wcif_results.specs.{Encoding.attempt_result, Encoding.average_result, Results.integer}
+use Rattle.formats.specs.declared.results.Averaged.TheVariants as averaged
 
 abbrev pub natural : ℕ → Json
 natural n = number (decimal n)

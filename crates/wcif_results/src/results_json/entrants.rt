@@ -3,17 +3,14 @@
 ghost use Rattle.std.specs.Prelude.{◌≡◌, flat_map, OnOk};
 ghost use Rattle.json.specs.Tree.{json_tokens};
 ghost use Rattle.formats.specs.Results.{best_of};
-ghost use Rattle.rounds.specs.Rows.{IsRow};
-ghost use Rattle.rounds.specs.Tables.{Entrant, standings};
+ghost use Rattle.rounds.specs.{Rows.IsRow, Tables.Entrant, Tables.standings};
 ghost use Rattle.wcif_results.specs.model.Marks.{IsOpened, TellsOpened, entrant_in, marks_of};
-ghost use Rattle.wcif_results.specs.results_json.Entrants.{entrant_list};
-ghost use Rattle.wcif_results.specs.results_json.Entrants.{entrants_json};
+ghost use Rattle.wcif_results.specs.results_json.Entrants.{entrant_list, entrants_json};
 ghost use Rattle.wcif_results.specs.Written.{Adds};
 
+use crate::results::{write_number, write_ranking};
 use crate::results_json::rounds_written::ExportedRound;
-use crate::results_json::values::{
-    write_average, write_best, write_name, write_number, write_place, write_values,
-};
+use crate::results_json::values::{write_average, write_best, write_name, write_values};
 use attempts::NoMemory;
 use json::Writer;
 use rounds::EntrantRow;
@@ -52,7 +49,7 @@ fn write_row(
     out.key("name")?;
     write_name(out, round.meet.name(number))?;
     out.key("place")?;
-    write_place(out, row.values, row.place)?;
+    write_ranking(out, row.values, row.place)?;
     out.key("attempts")?;
     write_values(out, row.values)?;
     out.key("best")?;

@@ -3,8 +3,7 @@
 ghost use Rattle.std.specs.Prelude.{◌≡◌, flat_map, IfOk, OnOk};
 ghost use Rattle.json.specs.Tree.{json_tokens};
 ghost use Rattle.wcif_results.specs.results_json.Meets.{event_list, meet_json, rounds_json};
-ghost use Rattle.wcif_results.specs.Files.{IsTextOf};
-ghost use Rattle.wcif_results.specs.Written.{Adds};
+ghost use Rattle.wcif_results.specs.{Files.IsTextOf, Written.Adds};
 
 use crate::results_json::rounds_written::write_opened;
 use attempts::NoMemory;

@@ -5,8 +5,7 @@ ghost use Rattle.json.specs.Tree.{json_tokens, members_tokens};
 ghost use Rattle.commands.specs.Accepted.{round_of};
 ghost use Rattle.wcif_results.specs.model.Marks.{IsOpened, marks_of};
 ghost use Rattle.wcif_results.specs.results_json.Rounds.{later_members, round_json, round_list};
-ghost use Rattle.wcif_results.specs.results_json.Rounds.{unit_name};
-ghost use Rattle.wcif_results.specs.Written.{Adds};
+ghost use Rattle.wcif_results.specs.{results_json.Rounds.unit_name, Written.Adds};
 
 use crate::results_json::entrants::write_entrants;
 use crate::results_json::values::{write_advance, write_byte, write_cutoff, write_limit};

@@ -4,14 +4,12 @@ ghost use Rattle.std.specs.Prelude.{◌≡◌, OnOk, Some, option_map};
 ghost use Rattle.json.specs.Tree.{json_tokens};
 ghost use Rattle.formats.specs.Results.{best_of};
 ghost use Rattle.wcif_results.specs.results_json.Values.{advance_json, average_json, best_json};
-ghost use Rattle.wcif_results.specs.results_json.Values.{cutoff_json};
-ghost use Rattle.wcif_results.specs.results_json.Values.{limit_json, name_json, natural};
-ghost use Rattle.wcif_results.specs.results_json.Values.{one_member};
-ghost use Rattle.wcif_results.specs.results_json.Values.{value_json, values_json};
-ghost use Rattle.wcif_results.specs.Results.{ranking_json};
+ghost use Rattle.wcif_results.specs.results_json.Values.{cutoff_json, limit_json, name_json};
+ghost use Rattle.wcif_results.specs.results_json.Values.{natural, one_member, values_json};
 ghost use Rattle.wcif_results.specs.Written.{Adds};
 
-use crate::{attempt_result, average_result};
+use crate::average_result;
+use crate::results::write_value;
 use attempts::{NoMemory, Value};
 use formats::{Advance, Averaged};
 use json::Writer;
@@ -23,25 +21,11 @@ pub(crate) fn write_natural(out: &mut Writer, number: u32) -> Result<(), NoMemor
     out.u64(u64::from(number))
 }
 
-/// Writes a number of 16 bits.
-pub(crate) fn write_number(out: &mut Writer, number: u16) -> Result<(), NoMemory>
-    ensures { OnOk result (Adds out.old out.new (json_tokens (natural number))) }
-{
-    out.u64(u64::from(number))
-}
-
 /// Writes a number of eight bits.
 pub(crate) fn write_byte(out: &mut Writer, number: u8) -> Result<(), NoMemory>
     ensures { OnOk result (Adds out.old out.new (json_tokens (natural number))) }
 {
     out.u64(u64::from(number))
-}
-
-/// Writes an attempt.
-fn write_value(out: &mut Writer, value: Value) -> Result<(), NoMemory>
-    ensures { OnOk result (Adds out.old out.new (json_tokens (value_json value))) }
-{
-    out.i64(attempt_result(value))
 }
 
 /// Writes the attempts that are done.
@@ -74,17 +58,6 @@ pub(crate) fn write_average(out: &mut Writer, average: Averaged) -> Result<(), N
     match average {
         Averaged::Missing => out.null(),
         other => out.i64(average_result(other)),
-    }
-}
-
-/// Writes the place, or null where there is no attempt.
-pub(crate) fn write_place(out: &mut Writer, values: &[Value], place: u16) -> Result<(), NoMemory>
-    ensures { OnOk result (Adds out.old out.new (json_tokens (ranking_json values.now place))) }
-{
-    if values.is_empty() {
-        out.null()
-    } else {
-        write_number(out, place)
     }
 }
 
@@ -144,8 +117,7 @@ pub(crate) fn write_limit(out: &mut Writer, limit: Option<u32>) -> Result<(), No
 
 /// Writes a number under a name, as an object of its own.
 fn write_one(out: &mut Writer, name: &str, number: u32) -> Result<(), NoMemory>
-    ensures { OnOk result (Adds out.old out.new
-        (json_tokens (one_member name.now number))) }
+    ensures { OnOk result (Adds out.old out.new (json_tokens (one_member name.now number))) }
 {
     out.begin_object()?;
     out.key(name)?;

@@ -1,9 +1,7 @@
 -- Entries and votes as they are in the bytes of a frame, seen as those that are made of them.
-use Rattle.acceptor.specs.declared.entry.Entry.{Entry}
-use Rattle.acceptor.specs.declared.message.Report.{Report}
+use Rattle.acceptor.specs.declared.{entry.Entry.Entry, message.Report.Report}
 use Rattle.acceptor.specs.Entries.{IsId, IsText}
-use Rattle.wire.specs.declared.fields.EntryPart.{EntryPart}
-use Rattle.wire.specs.declared.fields.VotePart.{VotePart}
+use Rattle.wire.specs.declared.fields.{EntryPart.EntryPart, VotePart.VotePart}
 
 abbrev pub part_entry : EntryPart → Entry
 part_entry p = record { id = p.id; text = p.text.now }

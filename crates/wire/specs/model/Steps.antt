@@ -1,14 +1,10 @@
 -- What the steps of a reader do.
-use Rattle.std.specs.Prelude.{◌≡◌, ◌⊎◌, ℕ, ◌<◌, ◌≤◌, true, false, List, ◌++◌, length}
-use Rattle.std.specs.Prelude.{take, drop, Option, Some, None, Result, Ok, Err}
-use Rattle.std.specs.List.{flat_map, AllByRecursion}
-use Rattle.std.specs.Int.{w32, from_be_bytes}
-use Rattle.wire.specs.declared.fault.WireFault.{WireFault}
+use Rattle.std.specs.Prelude.{◌≡◌, ◌⊎◌, ℕ, ◌<◌, ◌≤◌, true, false, List, ◌++◌, length, take, drop}
+use Rattle.std.specs.Prelude.{Option, Some, None, Result, Ok, Err}
+use Rattle.std.specs.{List.flat_map, List.AllByRecursion, Int.w32, Int.from_be_bytes}
+use Rattle.wire.specs.declared.fault.WireFault.{WireFault, TheVariants.NoMemory}
 use Rattle.wire.specs.declared.fault.WireFault.TheVariants.{BadLength, BadVersion, BadKind, BadBody}
-use Rattle.wire.specs.declared.fault.WireFault.TheVariants.{NoMemory}
-use Rattle.wire.specs.declared.frame.Frame.{Frame}
-use Rattle.wire.specs.Ranges.{IsFrame}
-use Rattle.wire.specs.Reading.{between}
+use Rattle.wire.specs.{declared.frame.Frame.Frame, Ranges.IsFrame, Reading.between}
 use Rattle.wire.specs.Spelling.{spelling}
 use Rattle.wire.specs.Stream.{Front, Waits, Begins, Breaks, front, IsBegun, Ends, Reader, Feeds}
 
@@ -19,10 +15,7 @@ GivesLength (Ok (Some n)) bytes =
     (4 ≤ length bytes) × (n ≡ from_be_bytes w32 (take 4 bytes)) × (between 8 300000 n ≡ true)
 GivesLength (Err BadLength) bytes =
     (4 ≤ length bytes) × (between 8 300000 (from_be_bytes w32 (take 4 bytes)) ≡ false)
-GivesLength (Err BadVersion) bytes = ⊥
-GivesLength (Err BadKind) bytes = ⊥
-GivesLength (Err BadBody) bytes = ⊥
-GivesLength (Err NoMemory) bytes = ⊥
+GivesLength _ bytes = ⊥
 
 -- what was found at the front, with the number of its bytes, is what is there; memory is wanted
 -- only for a frame

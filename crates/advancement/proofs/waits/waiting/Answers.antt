@@ -1,6 +1,5 @@
 use Rattle.std.proofs.Common.{◌≤◌, map, length, nat_eq, ap, sym, subst, ◌∙◌}
-use Rattle.std.specs.List.{IsDistinct, list_any}
-use Rattle.std.specs.List.Sorted.{IsPermutation}
+use Rattle.std.specs.List.{IsDistinct, list_any, Sorted.IsPermutation}
 use Rattle.rounds.specs.Tables.{number_of_entrant, standings}
 use Rattle.advancement.specs.Waiting.{stays_out}
 use Rattle.advancement.proofs.EachOnce.{distinct_filter, few_filter, holds_at}
@@ -21,14 +20,12 @@ returns-clause-whom c = holds_at c.those_behind.result c.those_behind.ensures
     (c.deref.ensures.value ∙ c.in_ok-order.ensures.order))
     ∙ is_waiting c.args.table.now c.args.advance
     (subst (IsPermutation (map number_of_entrant c.args.table.now.entrants))
-    c.in_ok-order.ensures.order c.in_ok-order.ensures.all)
-    number)
+    c.in_ok-order.ensures.order c.in_ok-order.ensures.all) number)
 
 pub returns-clause-each_once : goal.returns-clause-each_once
 returns-clause-each_once c = holds_at c.those_behind.result c.those_behind.ensures
     (λ kept is.
-    subst (IsDistinct nat_eq)
-    (sym
+    subst (IsDistinct nat_eq) (sym
     (waiting_is c.args.table.now c.args.advance c.border-limit.result _ _ is c.border-limit.ensures
     (c.deref.ensures.value ∙ c.in_ok-order.ensures.order)))
     (distinct_filter (stays_out c.args.table.now c.args.advance) (standings c.args.table.now)
@@ -37,8 +34,7 @@ returns-clause-each_once c = holds_at c.those_behind.result c.those_behind.ensur
 pub returns-clause-few : goal.returns-clause-few
 returns-clause-few c = holds_at c.those_behind.result c.those_behind.ensures
     (λ kept is.
-    subst (λ ns. length ns ≤ 999)
-    (sym
+    subst (λ ns. length ns ≤ 999) (sym
     (waiting_is c.args.table.now c.args.advance c.border-limit.result _ _ is c.border-limit.ensures
     (c.deref.ensures.value ∙ c.in_ok-order.ensures.order)))
     (few_filter (stays_out c.args.table.now c.args.advance) (standings c.args.table.now)
@@ -47,9 +43,7 @@ returns-clause-few c = holds_at c.those_behind.result c.those_behind.ensures
 pub returns-clause-in_turn : goal.returns-clause-in_turn
 returns-clause-in_turn c = holds_at c.those_behind.result c.those_behind.ensures
     (λ kept is.
-    in_turn kept.items
-    (subst (IsDistinct nat_eq)
-    (sym
+    in_turn kept.items (subst (IsDistinct nat_eq) (sym
     (waiting_is c.args.table.now c.args.advance c.border-limit.result _ _ is c.border-limit.ensures
     (c.deref.ensures.value ∙ c.in_ok-order.ensures.order)))
     (distinct_filter (stays_out c.args.table.now c.args.advance) (standings c.args.table.now)

@@ -1,8 +1,8 @@
 use Rattle.std.proofs.Common.{[], ◌≤◌, length, sym, refl, rules}
 use Rattle.std.proofs.KnownBytes.{Appends-nil}
+use Rattle.std.proofs.lemmas.Result.{on_err_weaker, on_ok_weaker}
 use Rattle.lines.specs.declared.fault.RunFault.TheVariants as run_fault
-use Rattle.archive.proofs.Archived.{one_more, forgotten, unwritten, if_unwritten, stopped_by}
-use Rattle.archive.proofs.Archived.{ends, if_written}
+use Rattle.archive.proofs.Archived.{ends, forgotten, one_more, stopped_by, unwritten}
 use Rattle.archive.proofs.writing.write_log_from.Goals as goal
 
 pub returns-in_err-push_from-clause-err : goal.returns-in_err-push_from-clause-err
@@ -28,13 +28,12 @@ loop-pos-preserved g c =
 
 pub returns-clause-err : goal.returns-clause-err
 returns-clause-err g c =
-    if_unwritten c.write_out.result (unwritten _ _ _ _ _ _ _ c.loop-pos.invariant)
+    on_err_weaker c.write_out.result (unwritten _ _ _ _ _ _ _ c.loop-pos.invariant)
     c.write_out.ensures.err
 
 pub returns-clause-ok : goal.returns-clause-ok
 returns-clause-ok g c =
     let past : length c.args.log.now.entries ≤ c.loop-pos.pos = search rules in
-    if_written c.write_out.result
+    on_ok_weaker c.write_out.result
     (λ last. ends c.args.from c.args.log.now.entries c.loop-pos.pos _ _ _ _ c.loop-pos.invariant
-    past last)
-    c.write_out.ensures.ok
+    past last) c.write_out.ensures.ok

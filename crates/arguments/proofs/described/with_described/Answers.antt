@@ -5,7 +5,6 @@ use Rattle.arguments.proofs.described.with_described.Goals as goal
 
 pub returns : goal.returns
 returns c =
-    IfOk-weaker c.with_subcommand.result _ _
-    (λ command made. made
+    IfOk-weaker c.with_subcommand.result _ _ (λ command made. made
     ∙ ap (λ (sub : App). with_subcommand (app_of c.args.command) sub.top) c.in_ok-sub.ensures.0)
     c.with_subcommand.ensures

@@ -1,8 +1,6 @@
 use Rattle.std.proofs.Common.{◌∙◌, Some, ap, codes, refl, sym}
-use Rattle.clap.specs.Words.{found_of}
-use Rattle.clap.proofs.WalkLemmas.{raw_values-rows}
-use Rattle.arguments.specs.Asking.{are_command}
-use Rattle.arguments.proofs.Words.{id_before}
+use Rattle.clap.{specs.Words.found_of, proofs.WalkLemmas.raw_values-rows}
+use Rattle.arguments.{specs.Asking.are_command, proofs.Words.id_before}
 use Rattle.arguments.proofs.enter.enter_of.Goals as goal
 
 pub returns-then-are_command : goal.returns-then-are_command
@@ -26,8 +24,7 @@ returns c =
       (
         c.in_ok-id.ensures.in_range,
         sym (raw_values-rows (found_of c.args.found.now) (codes "words"))
-            ∙ sym c.in_ok-words.ensures
-            ∙ ap Some whole,
+            ∙ sym c.in_ok-words.ensures ∙ ap Some whole,
         ap are_command (sym whole) ∙ sym c.are_command.ensures ∙ c.if-are_command.false,
       ),
       c.flag_at-waits.ensures,

@@ -1,6 +1,5 @@
 use Rattle.std.proofs.Common.{◌∙◌, codes, refl, sym}
-use Rattle.clap.specs.Words.{found_of}
-use Rattle.clap.proofs.WalkLemmas.{raw_values-rows}
+use Rattle.clap.{specs.Words.found_of, proofs.WalkLemmas.raw_values-rows}
 use Rattle.arguments.proofs.hall_files.hall_file_of.Goals as goal
 
 pub returns : goal.returns

@@ -1,8 +1,7 @@
-use Rattle.std.proofs.Common.{ap, map, refl, Some}
-use Rattle.std.proofs.lemmas.Result.{IfOk-weaker}
-use Rattle.clap.specs.declared.builder.value_parser.ValueParser.TheVariants as parser
+use Rattle.std.proofs.{Common.ap, Common.map, Common.refl, Common.Some, lemmas.Result.IfOk-weaker}
 use Rattle.replay_arguments.proofs.Building.{added, added_last}
 use Rattle.arguments.specs.Tables.{described_app, with_arguments}
+use Rattle.clap.specs.declared.builder.value_parser.ValueParser.TheVariants as parser
 use Rattle.arguments.proofs.import.import_command.Goals as goal
 
 pub returns : goal.returns
@@ -14,8 +13,7 @@ returns c =
     c.in_ok-command-2.ensures.app c.in_ok-command-2.ensures.local in
     let two =
     added c.in_ok-command-2.command c.in_ok-command-3.command _ c.way-limits.result _ one
-    c.way-limits.ensures.rule
-    c.in_ok-command-3.ensures.app c.in_ok-command-3.ensures.local in
+    c.way-limits.ensures.rule c.in_ok-command-3.ensures.app c.in_ok-command-3.ensures.local in
     IfOk-weaker c.with_argument-3.result _ _ (λ command made. (
       record {
         edition = Some (parser.Names c.as_slice.result);
@@ -38,6 +36,5 @@ returns c =
         };
       },
       made,
-    ))
-    (added_last c.with_argument-3.result c.in_ok-command-3.command _ c.way-names.result _ two
+    )) (added_last c.with_argument-3.result c.in_ok-command-3.command _ c.way-names.result _ two
     c.way-names.ensures.rule c.with_argument-3.ensures.app c.with_argument-3.ensures.local)

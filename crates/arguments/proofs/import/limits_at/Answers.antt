@@ -16,7 +16,4 @@ pub returns-in-None : goal.returns-in-None
 returns-in-None c =
     let f = found_of c.args.found.now in
     let none = none_found f (codes "cumulative") c.get_str.result c.get_str.ensures c.in-None.is in
-    record {
-      given = λ text is. absurd (let both = is in cc);
-      none = λ is. refl;
-    }
+    record { given = λ text is. absurd (let both = is in cc); none = λ is. refl }

@@ -1,8 +1,6 @@
 use Rattle.std.proofs.Common.{◌∙◌, Bool, codes, subst, sym}
-use Rattle.clap.specs.Words.{found_of, rows_of}
-use Rattle.clap.proofs.WalkLemmas.{raw_values-rows}
-use Rattle.arguments.specs.Arguments.{IsFlag}
-use Rattle.arguments.proofs.Whose.{whoses_are_forms}
+use Rattle.clap.{specs.Words.found_of, specs.Words.rows_of, proofs.WalkLemmas.raw_values-rows}
+use Rattle.arguments.{specs.Arguments.IsFlag, proofs.Whose.whoses_are_forms}
 use Rattle.arguments.proofs.log.form_at.Goals as goal
 
 pub returns-in-Some : goal.returns-in-Some

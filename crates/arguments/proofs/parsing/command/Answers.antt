@@ -1,9 +1,8 @@
 use Rattle.std.proofs.Common.{◌∙◌, ap, codes}
 use Rattle.std.proofs.lemmas.Result.{IfOk-weaker}
 use Rattle.replay_arguments.proofs.Building.{subbed}
-use Rattle.arguments.specs.Arguments.{errand_arguments}
-use Rattle.arguments.specs.Asking.{ask_arguments, enter_arguments, lines_arguments}
-use Rattle.arguments.specs.Asking.{log_arguments, status_arguments}
+use Rattle.arguments.specs.{Arguments.errand_arguments, Asking.status_arguments}
+use Rattle.arguments.specs.Asking.{ask_arguments, enter_arguments, lines_arguments, log_arguments}
 use Rattle.arguments.proofs.Tables.{on}
 use Rattle.arguments.proofs.parsing.command.Goals as goal
 
@@ -21,9 +20,7 @@ returns c =
     let five = c.in_ok-command-6.ensures ∙ ap (on ask_arguments) four in
     let six = subbed _ _ _ _ _ five sheet.1.0 c.in_ok-command-7.ensures in
     let seven = c.in_ok-command-8.ensures ∙ ap (on (errand_arguments (codes "tick"))) six in
-    IfOk-weaker c.with_stop.result _ _
-    (λ command made. (
+    IfOk-weaker c.with_stop.result _ _ (λ command made. (
       record { replay = half.0; sheet = sheet.0; imported = half.1 },
       made ∙ ap (on (errand_arguments (codes "stop"))) seven,
-    ))
-    c.with_stop.ensures
+    )) c.with_stop.ensures

@@ -1,6 +1,5 @@
 use Rattle.std.proofs.Common.{◌≡◌, ◌∙◌, ◌||◌, Bool, codes, false, refl, subst, sym, true}
-use Rattle.clap.specs.Words.{found_of, rows_of}
-use Rattle.clap.proofs.WalkLemmas.{raw_values-rows}
+use Rattle.clap.{specs.Words.found_of, specs.Words.rows_of, proofs.WalkLemmas.raw_values-rows}
 use Rattle.arguments.specs.Arguments.{IsFlag}
 use Rattle.arguments.proofs.serve.serve_of.Goals as goal
 

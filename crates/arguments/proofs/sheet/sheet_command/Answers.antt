@@ -1,10 +1,8 @@
-use Rattle.std.proofs.Common.{codes}
-use Rattle.std.proofs.lemmas.Result.{IfOk-weaker}
+use Rattle.std.proofs.{Common.codes, lemmas.Result.IfOk-weaker}
 use Rattle.replay_arguments.proofs.Building.{added}
 use Rattle.clap.specs.Words.{App, with_rule}
 use Rattle.arguments.specs.Arguments.{csv_rule, last_value_rule, numbers}
-use Rattle.arguments.specs.Tables.{described_app, with_arguments}
-use Rattle.arguments.proofs.Tables.{grown}
+use Rattle.arguments.{specs.Tables.described_app, specs.Tables.with_arguments, proofs.Tables.grown}
 use Rattle.arguments.proofs.sheet.sheet_command.Goals as goal
 
 pub returns : goal.returns
@@ -14,8 +12,7 @@ returns c =
     let round = c.round_value.ensures.rule in
     let one =
     added c.in_ok-command.command c.in_ok-command-2.command _ c.event_value.result _
-    c.in_ok-command.ensures event.2 c.in_ok-command-2.ensures.app
-    c.in_ok-command-2.ensures.local in
+    c.in_ok-command.ensures event.2 c.in_ok-command-2.ensures.app c.in_ok-command-2.ensures.local in
     let two =
     added c.in_ok-command-2.command c.in_ok-command-3.command _ c.round_value.result _ one round.2
     c.in_ok-command-3.ensures.app c.in_ok-command-3.ensures.local in
@@ -25,6 +22,5 @@ returns c =
     IfOk-weaker c.with_arguments.result _ _ (λ command made. (
       record { events = event.0; rounds = round.0; named = event.1; numbered = round.1 },
       made,
-    ))
-    (grown c.with_arguments.result c.in_ok-command-3.command _ last two
+    )) (grown c.with_arguments.result c.in_ok-command-3.command _ last two
     c.with_arguments.ensures.app c.with_arguments.ensures.local)

@@ -1,5 +1,4 @@
-use Rattle.batch.specs.Dialing.{place_of}
-use Rattle.batch.proofs.EachLine.{if_adds_err, if_adds_ok}
+use Rattle.batch.{specs.Dialing.place_of, proofs.EachLine.if_adds_err, proofs.EachLine.if_adds_ok}
 use Rattle.batch.proofs.command_entered.enter_command.Goals as goal
 
 pub returns-clause-asked : goal.returns-clause-asked

@@ -1,12 +1,9 @@
 use Rattle.std.proofs.Common.{◌∷◌, [], Ok, Err, inl, inr, refl, rules, subst}
 use Rattle.client.specs.declared.fault.ClientFault.TheVariants.{NoAnswer}
 use Rattle.wire.specs.declared.frame.Frame.{Frame}
-use Rattle.batch.specs.Asking.{IsAnswer}
-use Rattle.batch.specs.Watching.{Another}
+use Rattle.batch.{specs.Asking.IsAnswer, specs.Watching.Another, proofs.Confirmed.unconfirmed}
 use Rattle.batch.specs.declared.fault.BatchFault.TheVariants.{AnotherCommand, Asking}
-use Rattle.batch.proofs.Confirmed.{confirms, unconfirmed}
-use Rattle.batch.proofs.Going.{grows_none}
-use Rattle.batch.proofs.Trying.{fails_by}
+use Rattle.batch.proofs.{Confirmed.confirms, Going.grows_none, Trying.fails_by}
 use Rattle.batch.proofs.confirming.confirm.Goals as goal
 
 pub returns-in_err-answer-clause-err : goal.returns-in_err-answer-clause-err
@@ -40,8 +37,7 @@ returns-clause-err g c =
     (Ok c.in_ok-answer.answer) c.position_of-position.result c.log_request-request.result _ _ _
     (Another entry ∷ []) c.finds_another.ensures
     c.log_request-request.ensures.request c.position_of-position.ensures.at
-    c.in_ok-answer.ensures.told
-    (inl (
+    c.in_ok-answer.ensures.told (inl (
       refl,
       entry,
       (

@@ -1,7 +1,6 @@
 use Rattle.std.proofs.Common.{◌≡◌, refl, ap, Err, arith, false, rules}
-use Rattle.batch.specs.Dialing.{place_of}
+use Rattle.batch.{specs.Dialing.place_of, proofs.Going.grows_none}
 use Rattle.batch.specs.Asking.{IsFull, asked_so}
-use Rattle.batch.proofs.Going.{grows_none}
 use Rattle.batch.proofs.Trying.{fails_by, if_taken_told, if_turned_off_told, none_tried, taken_told}
 use Rattle.batch.proofs.Trying.{tick_off_told, tries_on, turned_off_told, waits_more}
 use Rattle.batch.proofs.entering.asked_until_taken.Goals as goal
@@ -30,8 +29,7 @@ returns-in_err-rest_behind-clause-err g c =
     (tick_off_told c.args.receiver c.args.submit.now c.loop-tries.tries _ _ _ _ _
     (asked_so c.args.submit.now (Err c.in-Err.fault)) f c.loop-tries.invariant.0
     c.in-Err.ensures.told (refl, ap Err (c.is_busy.ensures.yes c.if-not-is_busy.false))
-    c.in_err-rest_behind.ensures.err
-    (waits_more _ _ _ c.loop-tries.tries c.loop-tries.invariant.1
+    c.in_err-rest_behind.ensures.err (waits_more _ _ _ c.loop-tries.tries c.loop-tries.invariant.1
     c.in_err-rest_behind.ensures.heard))
 
 pub loop-tries-preserved : goal.loop-tries-preserved

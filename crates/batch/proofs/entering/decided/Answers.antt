@@ -1,11 +1,9 @@
 use Rattle.std.proofs.Common.{◌≡◌, ◌<◌, ◌∙◌, inr, refl, subst, sym, Err, Ok, arith, rules}
 use Rattle.wire.specs.declared.frame.Frame.{Frame}
-use Rattle.batch.specs.Dialing.{place_of}
+use Rattle.batch.{specs.Dialing.place_of, proofs.Going.grows_none, proofs.Trying.most_some}
 use Rattle.batch.specs.Asking.{IsAnswer, IsWaiting, ask_of, asked_so}
-use Rattle.batch.proofs.Going.{grows_none}
-use Rattle.batch.proofs.Trying.{awaits_told, failed_told, fails_by, lost_told, most_some}
-use Rattle.batch.proofs.Trying.{none_tried, tick_waits_told, told_of, told_once, tries_on}
-use Rattle.batch.proofs.Trying.{waits_more, waits_on_told}
+use Rattle.batch.proofs.Trying.{awaits_told, failed_told, lost_told, waits_more, waits_on_told}
+use Rattle.batch.proofs.Trying.{fails_by, none_tried, tick_waits_told, told_of, told_once, tries_on}
 use Rattle.batch.proofs.entering.decided.Goals as goal
 
 pub loop-tries-init : goal.loop-tries-init
@@ -21,8 +19,7 @@ returns-in_err-told-clause-err g c =
     fails_by _ c.from_residual.result f (search rules)
     (failed_told c.args.receiver c.args.id f c.loop-tries.tries _ _ _ _ c.loop-tries.invariant.0
     (told_of _ _ _ (ask_of c.args.receiver c.args.id) (Err f)
-    c.question_of-question.ensures.question c.in_err-told.ensures.told)
-    c.loop-tries.invariant.1)
+    c.question_of-question.ensures.question c.in_err-told.ensures.told) c.loop-tries.invariant.1)
 
 pub returns-in-Decided-clause-ok : goal.returns-in-Decided-clause-ok
 returns-in-Decided-clause-ok g c =
@@ -37,8 +34,7 @@ returns-in-Unknown-clause-err g c =
     lost_told c.args.receiver c.args.id c.loop-tries.tries _ _ _ _ c.in_ok-told.told
     (c.fate_of.ensures.unknown c.in-Unknown.is) c.loop-tries.invariant.0
     (told_of _ _ _ (ask_of c.args.receiver c.args.id) (Ok c.in_ok-told.told)
-    c.question_of-question.ensures.question c.in_ok-told.ensures.told)
-    c.loop-tries.invariant.1
+    c.question_of-question.ensures.question c.in_ok-told.ensures.told) c.loop-tries.invariant.1
 
 pub returns-in_err-rest_behind-clause-err : goal.returns-in_err-rest_behind-clause-err
 returns-in_err-rest_behind-clause-err g c =
@@ -52,8 +48,7 @@ returns-in_err-rest_behind-clause-err g c =
       refl,
       (
         subst (λ (q : Frame). IsAnswer q c.in_ok-told.told)
-            c.question_of-question.ensures.question
-            c.in_ok-told.ensures.answered,
+            c.question_of-question.ensures.question c.in_ok-told.ensures.answered,
         c.fate_of.ensures.waits c.in-Waits.is,
       ),
     )
@@ -71,8 +66,7 @@ loop-tries-preserved g c =
             refl,
             (
               subst (λ (q : Frame). IsAnswer q c.in_ok-told.told)
-                  c.question_of-question.ensures.question
-                  c.in_ok-told.ensures.answered,
+                  c.question_of-question.ensures.question c.in_ok-told.ensures.answered,
               c.fate_of.ensures.waits c.in-Waits.is,
             ),
           )

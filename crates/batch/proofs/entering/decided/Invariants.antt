@@ -1,7 +1,6 @@
-use Rattle.batch.specs.Dialing.{place_of}
+use Rattle.batch.specs.{Dialing.place_of, model.Keeping.standing}
 use Rattle.batch.specs.Asking.{AreTries, Asks, IsWaiting, ask_of}
 use Rattle.batch.specs.Watching.{Tells, waits_of, watched}
-use Rattle.batch.specs.model.Keeping.{standing}
 use Rattle.batch.proofs.entering.decided.Given as goal
 
 -- the command wasn't decided each time, of which the observer was told, and the desk was ticked

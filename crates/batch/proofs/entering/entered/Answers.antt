@@ -1,11 +1,7 @@
 use Rattle.std.proofs.Common.{[], inl, refl, rules}
-use Rattle.batch.specs.Dialing.{place_of}
-use Rattle.batch.proofs.Asked.{undecided}
+use Rattle.batch.{specs.Dialing.place_of, specs.Asking.IsOfAsking, proofs.Going.grows_none}
+use Rattle.batch.proofs.{Asked.undecided, EachLine.not_own, Going.goes_none, Trying.fails_by}
 use Rattle.batch.proofs.EachLine.{asks_text, confirmed, is_entered, not_awaited, not_confirmed}
-use Rattle.batch.proofs.EachLine.{not_own}
-use Rattle.batch.specs.Asking.{IsOfAsking}
-use Rattle.batch.proofs.Going.{goes_none, grows_none}
-use Rattle.batch.proofs.Trying.{fails_by}
 use Rattle.batch.proofs.entering.entered.Goals as goal
 
 pub returns-then-id-eq0-clause-err : goal.returns-then-id-eq0-clause-err

@@ -1,8 +1,6 @@
 use Rattle.std.proofs.Common.{◌≡◌, ◌+◌, ◌∷◌, ◌∙◌, [], Ok, Err, refl, arith, rules}
-use Rattle.batch.specs.Asking.{asked_so, tick_of, ticks_in}
-use Rattle.batch.specs.Dialing.{place_of}
-use Rattle.batch.proofs.Going.{goes_none}
-use Rattle.batch.proofs.Trying.{fails_by, told_of}
+use Rattle.batch.specs.{Asking.asked_so, Asking.tick_of, Asking.ticks_in, Dialing.place_of}
+use Rattle.batch.proofs.{Going.goes_none, Trying.fails_by, Trying.told_of}
 use Rattle.batch.proofs.entering.rest_behind.Goals as goal
 
 pub returns-then-not-is_tick_due-clause-ok : goal.returns-then-not-is_tick_due-clause-ok

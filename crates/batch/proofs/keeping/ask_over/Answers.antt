@@ -1,5 +1,4 @@
-use Rattle.batch.specs.Dialing.{place_of}
-use Rattle.batch.proofs.Going.{adds_by}
+use Rattle.batch.{specs.Dialing.place_of, proofs.Going.adds_by}
 use Rattle.batch.proofs.keeping.ask_over.Goals as goal
 
 pub returns-clause-told : goal.returns-clause-told

@@ -1,8 +1,7 @@
 use Rattle.std.proofs.Common.{◌≡◌, ◌+◌, ◌^◌, ◌≤◌, ◌∙◌, ap, false, subst, sym, true, rules}
-use Rattle.batch.specs.Dialing.{place_of}
+use Rattle.batch.{specs.Dialing.place_of, proofs.Trying.fails_by}
 use Rattle.batch.specs.Entering.{IsEntered, ends_after, ends_run}
 use Rattle.batch.proofs.Asked.{beyond, enters_line, refused, unentered, unprinted}
-use Rattle.batch.proofs.Trying.{fails_by}
 use Rattle.batch.proofs.lines_entered.enter_line.Goals as goal
 
 pub returns-in_default-clause-err : goal.returns-in_default-clause-err

@@ -1,6 +1,5 @@
 use Rattle.batch.specs.Dialing.{place_of}
-use Rattle.batch.proofs.Asked.{asks_so, asks_some_so}
-use Rattle.batch.proofs.Going.{adds_by}
+use Rattle.batch.proofs.{Asked.asks_so, Asked.asks_some_so, Going.adds_by}
 use Rattle.batch.proofs.lines_entered.enter_lines.Goals as goal
 
 pub returns-clause-ok : goal.returns-clause-ok

@@ -1,7 +1,5 @@
 use Rattle.std.proofs.Common.{[], rules}
-use Rattle.batch.specs.Dialing.{place_of}
-use Rattle.batch.specs.Entering.{texts_of}
-use Rattle.batch.proofs.Asked.{stops_to}
+use Rattle.batch.{specs.Dialing.place_of, specs.Entering.texts_of, proofs.Asked.stops_to}
 use Rattle.batch.proofs.Entered.{next_entered, none_entered, stops_at, whole_list}
 use Rattle.batch.proofs.lines_entered.enter_lines_over.Goals as goal
 

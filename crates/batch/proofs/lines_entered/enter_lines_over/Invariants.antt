@@ -1,6 +1,4 @@
-use Rattle.batch.specs.Dialing.{place_of}
-use Rattle.batch.specs.model.Keeping.{standing}
-use Rattle.batch.proofs.Entered.{AreEntered}
+use Rattle.batch.{specs.Dialing.place_of, specs.model.Keeping.standing, proofs.Entered.AreEntered}
 use Rattle.batch.proofs.lines_entered.enter_lines_over.Given as goal
 
 -- the commands so far are entered

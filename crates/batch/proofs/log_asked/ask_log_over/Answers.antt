@@ -1,9 +1,7 @@
 use Rattle.std.proofs.Common.{◌≡◌, ◌<◌, [], ap, inl, length, refl, arith, rules}
 use Rattle.batch.specs.Dialing.{place_of}
-use Rattle.batch.proofs.Going.{goes_none}
+use Rattle.batch.proofs.{Going.goes_none, Parts.stops_first, Parts.stops_more, Trying.fails_by}
 use Rattle.batch.proofs.Parts.{asks_all, asks_first, asks_more, part_longer, part_within}
-use Rattle.batch.proofs.Parts.{stops_first, stops_more}
-use Rattle.batch.proofs.Trying.{fails_by}
 use Rattle.batch.proofs.log_asked.ask_log_over.Goals as goal
 
 pub returns-in_default-clause-err : goal.returns-in_default-clause-err

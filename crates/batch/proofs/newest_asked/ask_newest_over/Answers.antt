@@ -1,6 +1,5 @@
 use Rattle.std.proofs.Common.{subst}
-use Rattle.batch.specs.Asking.{IsAnswer}
-use Rattle.batch.specs.Dialing.{place_of}
+use Rattle.batch.specs.{Asking.IsAnswer, Dialing.place_of}
 use Rattle.batch.proofs.Newest.{both_answered, is_said, not_none, second_fails}
 use Rattle.batch.proofs.newest_asked.ask_newest_over.Goals as goal
 

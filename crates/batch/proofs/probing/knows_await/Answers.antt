@@ -1,4 +1,4 @@
-use Rattle.std.proofs.Common.{◌∷◌, [], inl, inr, subst, refl, arith}
+use Rattle.std.proofs.Common.{◌∷◌, [], inl, subst, arith}
 use Rattle.wire.specs.declared.frame.Frame.{Frame}
 use Rattle.batch.specs.Dialing.{Adds, asked_so, place_of}
 use Rattle.batch.proofs.probing.knows_await.Goals as goal

@@ -8,8 +8,6 @@ push_lines-requires c =
 
 pub returns : goal.returns
 returns c =
-    subst
-    (λ (ns : List ℕ). OnOk c.push_lines.result
-    (c.push_lines.new.out.items
+    subst (λ (ns : List ℕ). OnOk c.push_lines.result (c.push_lines.new.out.items
     ≡ c.args.out.now.items ++ flat_map (listed_shown c.args.podium c.args.shown) ns))
     (c.deref.ensures.value ∙ c.in_ok-numbers.ensures.order) c.push_lines.ensures

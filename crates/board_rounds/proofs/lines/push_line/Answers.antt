@@ -1,8 +1,7 @@
 use Rattle.std.proofs.Common.{◌++◌, ◌∙◌, ap}
 use Rattle.formats.specs.Events.{unit_of}
 use Rattle.markup.proofs.board_page.Steps.{five_parts}
-use Rattle.board_rounds.specs.model.Shown.{through_shown}
-use Rattle.board_rounds.proofs.EntrantLines.{line_of_row}
+use Rattle.board_rounds.{specs.model.Shown.through_shown, proofs.EntrantLines.line_of_row}
 use Rattle.board_rounds.proofs.lines.push_line.Goals as goal
 
 pub returns : goal.returns

@@ -1,8 +1,7 @@
 use Rattle.std.proofs.Common.{◌≡◌, ◌∙◌, ap, length}
 use Rattle.commands.specs.History.{History}
 use Rattle.board_rounds.specs.Persons.{people}
-use Rattle.board_views.specs.Rounds.{accepted_in}
-use Rattle.board_views.specs.Views.{people_page}
+use Rattle.board_views.specs.{Rounds.accepted_in, Views.people_page}
 use Rattle.board_views.proofs.bodies.people_page.Goals as goal
 
 pub returns : goal.returns

@@ -1,6 +1,5 @@
 use Rattle.std.proofs.Common.{◌∙◌, ◌++◌, ◌∷◌, [], List, ℕ, ap, arith, codes, decimal, option_map}
-use Rattle.std.proofs.Common.{refl, sym}
-use Rattle.std.proofs.lemmas.List.{append_cancel_left}
+use Rattle.std.proofs.{Common.refl, Common.sym, lemmas.List.append_cancel_left}
 use Rattle.board_views.proofs.Names.{decimal_lacks, of_parts, parts_of}
 use Rattle.board_views.proofs.paths.past.Goals as goal
 

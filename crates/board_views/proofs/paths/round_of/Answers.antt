@@ -30,9 +30,7 @@ pub returns-clause-some : goal.returns-clause-some
 returns-clause-some c =
     let number = (c.in_ok-round-2.ensures.spelled c.in_ok-round-2.round).0 refl in (
       (number.0, omega (arith, c.from.ensures)),
-      of_name_parts
-          (record { event = c.in_ok-event.event; round = c.in_ok-round-2.round })
+      of_name_parts (record { event = c.in_ok-event.event; round = c.in_ok-round-2.round })
           c.args.name.now c.in_ok-round.field-0.now _ c.cut.ensures
-          (ap (option_map (λ s. s.now)) c.in_ok-round.was)
-          (sym c.in_ok-event.ensures) number.2,
+          (ap (option_map (λ s. s.now)) c.in_ok-round.was) (sym c.in_ok-event.ensures) number.2,
     )

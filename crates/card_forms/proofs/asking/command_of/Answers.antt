@@ -1,9 +1,6 @@
 use Rattle.std.proofs.Common.{◌≡◌, true, rules, sym, ◌∙◌}
-use Rattle.texts.specs.Table.{plain}
-use Rattle.texts.proofs.Rows.{named_row}
-use Rattle.card_forms.specs.Asking.{has_form}
-use Rattle.card_forms.proofs.Asked.{asked}
-use Rattle.card_forms.proofs.Refused.{unmade_row}
+use Rattle.texts.{specs.Table.plain, proofs.Rows.named_row}
+use Rattle.card_forms.{specs.Asking.has_form, proofs.Asked.asked, proofs.Refused.unmade_row}
 use Rattle.card_forms.proofs.asking.command_of.Goals as goal
 
 pub values-requires : goal.values-requires

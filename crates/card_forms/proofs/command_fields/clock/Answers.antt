@@ -1,7 +1,6 @@
 use Rattle.std.proofs.Common.{◌∙◌, ℕ, Option, subst, sym}
 use Rattle.std.specs.Prelude.{IfSome}
-use Rattle.card_forms.specs.Asking.{IsClock}
-use Rattle.card_forms.proofs.Lacking.{clock_lacks, clock_value}
+use Rattle.card_forms.{specs.Asking.IsClock, proofs.Lacking.clock_lacks, proofs.Lacking.clock_value}
 use Rattle.card_forms.proofs.command_fields.clock.Goals as goal
 
 pub returns-clause-value : goal.returns-clause-value

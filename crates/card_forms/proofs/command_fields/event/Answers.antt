@@ -1,12 +1,11 @@
 use Rattle.std.proofs.Common.{◌∙◌, ap, codes}
-use Rattle.formats.specs.declared.events.Event.{Event}
-use Rattle.formats.specs.Events.{event_of_name}
+use Rattle.formats.specs.{declared.events.Event.Event, Events.event_of_name}
 use Rattle.scorecard.specs.Spelling.{trimmed}
+use Rattle.card_forms.specs.Asking.{field as value_in}
+use Rattle.card_forms.proofs.Lacking.{event_lacks, ok_or_lacks}
 use Rattle.card_forms.specs.declared.command_faults.Field.TheVariants as field
 use Rattle.card_forms.specs.declared.command_faults.FieldFault.TheVariants as at
 use Rattle.card_forms.specs.declared.command_faults.FieldError.TheVariants as wrong
-use Rattle.card_forms.specs.Asking.{field as value_in}
-use Rattle.card_forms.proofs.Lacking.{event_lacks, ok_or_lacks}
 use Rattle.card_forms.proofs.command_fields.event.Goals as goal
 
 pub returns-clause-lacks : goal.returns-clause-lacks

@@ -1,10 +1,8 @@
 use Rattle.std.proofs.Common.{◌∙◌, ap, refl, subst, sym}
 use Rattle.scorecard.specs.Spelling.{trimmed}
+use Rattle.card_forms.{specs.Asking.HasLimit, specs.Faults.LacksAs, proofs.Lacking.no_limit}
 use Rattle.card_forms.specs.declared.command_faults.Field.TheVariants as field
 use Rattle.card_forms.specs.declared.command_faults.FieldError.TheVariants as wrong
-use Rattle.card_forms.specs.Asking.{HasLimit}
-use Rattle.card_forms.specs.Faults.{LacksAs}
-use Rattle.card_forms.proofs.Lacking.{no_limit}
 use Rattle.card_forms.proofs.command_fields.limit.Goals as goal
 
 pub returns-in-None-clause-lacks : goal.returns-in-None-clause-lacks

@@ -1,10 +1,8 @@
 use Rattle.std.proofs.Common.{◌∙◌, ℕ, ap, refl, subst, sym}
 use Rattle.texts.specs.Fields.{number_between}
+use Rattle.card_forms.{specs.Asking.IsNumberBelow, specs.Faults.LacksAs, proofs.Lacking.no_number}
 use Rattle.card_forms.specs.declared.command_faults.Field.TheVariants as field
 use Rattle.card_forms.specs.declared.command_faults.FieldError.TheVariants as wrong
-use Rattle.card_forms.specs.Asking.{IsNumberBelow}
-use Rattle.card_forms.specs.Faults.{LacksAs}
-use Rattle.card_forms.proofs.Lacking.{no_number}
 use Rattle.card_forms.proofs.command_fields.number_below.Goals as goal
 
 pub returns-in-None-clause-lacks : goal.returns-in-None-clause-lacks

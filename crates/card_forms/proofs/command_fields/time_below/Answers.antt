@@ -1,8 +1,7 @@
 use Rattle.std.proofs.Common.{refl, subst, sym}
+use Rattle.card_forms.specs.{Asking.IsClock, Faults.LacksAs}
 use Rattle.card_forms.specs.declared.command_faults.Field.TheVariants as field
 use Rattle.card_forms.specs.declared.command_faults.FieldError.TheVariants as wrong
-use Rattle.card_forms.specs.Asking.{IsClock}
-use Rattle.card_forms.specs.Faults.{LacksAs}
 use Rattle.card_forms.proofs.command_fields.time_below.Goals as goal
 
 pub returns-in-None-clause-lacks : goal.returns-in-None-clause-lacks

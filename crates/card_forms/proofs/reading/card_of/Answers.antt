@@ -36,8 +36,7 @@ returns-in_err-now-clause-unread c =
     c.in-Ok-fifth.fifth c.as_bytes-6.ensures c.in-Ok-fifth.is c.said_at-fifth.ensures.says)) in
     let why = c.in_err-now.field-0.0 in
     let same : c.from_residual.result ≡ Err why = search rules in
-    rw same
-    (not_fit form says why all
+    rw same (not_fit form says why all
     (subst (λ (was : List Value). IsUnfitAs was says why) c.as_slice-was.ensures
     c.in_err-now.ensures.unfit))
 

@@ -1,19 +1,13 @@
 use Rattle.std.proofs.Common.{None, refl}
-use Rattle.std.specs.Char.{encode_utf8}
-use Rattle.std.specs.Fmt.{digits}
-use Rattle.std.specs.Str.{chars, is_utf8}
+use Rattle.std.specs.{Char.encode_utf8, Fmt.digits, Str.chars, Str.is_utf8}
 use Rattle.ucd_table.specs.Rows.{value_in}
 use Rattle.ucd_category.specs.GeneralCategory.{general_category}
 use Rattle.ucd_category.specs.GeneralCategoryRows.{general_category_rows}
 use Rattle.formats.specs.Events.{event_of_name, format_named}
 use Rattle.texts.specs.Fields.{cut, entered_of, name_of, new_name_of, now_of, number_between}
-use Rattle.texts.specs.Fields.{was_of}
-use Rattle.texts.specs.Names.{is_clear_name}
-use Rattle.texts.specs.Reading.{command_of}
-use Rattle.texts.specs.Table.{rows}
+use Rattle.texts.specs.{Fields.was_of, Names.is_clear_name, Reading.command_of, Table.rows}
 use Rattle.texts.specs.declared.command.Command.TheVariants.{Card}
-use Rattle.commands.specs.Accepted.{round_in}
-use Rattle.commands.specs.History.{after_in, entry_refusal_in}
+use Rattle.commands.specs.{Accepted.round_in, History.after_in, History.entry_refusal_in}
 use Rattle.card_laws.specs.WorkedSaving.{card}
 use Rattle.card_laws.proofs.worked.works_saved.Goals as goal
 

@@ -2,8 +2,7 @@ use Rattle.std.proofs.Common.{◌≡◌, false, refl}
 use Rattle.std.proofs.lemmas.List.Elements.{All-from_recursion}
 use Rattle.formats.specs.declared.events.Event.TheVariants.{Cube3}
 use Rattle.commands.specs.Accepted.{round_in}
-use Rattle.card_laws.specs.Holding.{names}
-use Rattle.card_laws.specs.WorkedCards.{to_ben, to_ben_later}
+use Rattle.card_laws.specs.{Holding.names, WorkedCards.to_ben, WorkedCards.to_ben_later}
 use Rattle.card_laws.proofs.worked.works_standing.Goals as goal
 
 pub returns : goal.returns

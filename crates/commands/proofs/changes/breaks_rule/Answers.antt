@@ -1,6 +1,5 @@
 use Rattle.std.proofs.Common.{◌∙◌}
-use Rattle.commands.specs.model.Kept.{kept_competitors}
-use Rattle.commands.proofs.RoundsRule.{breaks_same}
+use Rattle.commands.{specs.model.Kept.kept_competitors, proofs.RoundsRule.breaks_same}
 use Rattle.commands.proofs.changes.breaks_rule.Goals as goal
 
 pub returns : goal.returns

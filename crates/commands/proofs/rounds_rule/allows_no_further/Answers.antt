@@ -1,6 +1,5 @@
 use Rattle.std.proofs.Common.{◌≡◌, ℕ, suc, ◌+◌, ◌-◌, ◌≤◌, Bool, true, false, ◌||◌, sym, ap, ◌∙◌}
-use Rattle.std.proofs.Common.{arith}
-use Rattle.std.specs.List.{list_any, range_with_len}
+use Rattle.std.{proofs.Common.arith, specs.List.list_any, specs.List.range_with_len}
 use Rattle.commands.proofs.rounds_rule.allows_no_further.Goals as goal
 
 -- a number that does not pass is left out
@@ -21,8 +20,7 @@ any_found p i n within passes =
 
 pub returns-then-has_too_few : goal.returns-then-has_too_few
 returns-then-has_too_few c =
-    sym
-    (c.loop-earlier.invariant
+    sym (c.loop-earlier.invariant
     ∙ any_found _ c.loop-earlier.earlier c.args.id.round (omega arith)
     (sym c.if-has_too_few.ensures))
 

@@ -1,7 +1,6 @@
 use Rattle.std.proofs.Common.{◌≡◌, ◌+◌, ◌-◌}
 use Rattle.std.specs.List.{list_any, range_with_len}
-use Rattle.commands.specs.Accepted.{has_too_few, but_for}
-use Rattle.commands.specs.model.Kept.{kept_competitors}
+use Rattle.commands.specs.{Accepted.has_too_few, Accepted.but_for, model.Kept.kept_competitors}
 use Rattle.commands.proofs.rounds_rule.allows_no_further.Given as goal
 
 abbrev pub invariant-loop-earlier : goal.invariant-loop-earlier

@@ -1,13 +1,9 @@
-use Rattle.std.proofs.Common.{inl, inr, refl}
-use Rattle.std.proofs.KnownBytes.{Keeps-refl}
+use Rattle.std.proofs.{Common.inl, Common.inr, Common.refl, KnownBytes.Keeps-refl}
 use Rattle.desk.proofs.Endings.{results_not_zero}
 use Rattle.desk.proofs.exported.run_results.Goals as goal
 
 pub returns-in-Ok : goal.returns-in-Ok
-returns-in-Ok g c = record {
-  ends = inl (refl, c.in-Ok.ensures.ok);
-  quiet = λ zero. Keeps-refl _;
-}
+returns-in-Ok g c = record { ends = inl (refl, c.in-Ok.ensures.ok); quiet = λ zero. Keeps-refl _ }
 
 pub returns-in-Err : goal.returns-in-Err
 returns-in-Err g c = record {

@@ -5,10 +5,7 @@ use Rattle.subcommands.proofs.Ending.{not_zero}
 use Rattle.desk.proofs.made_key.run_key.Goals as goal
 
 pub returns-in-Ok : goal.returns-in-Ok
-returns-in-Ok g c = record {
-  ends = inl (refl, c.in-Ok.ensures.ok);
-  quiet = λ zero. Keeps-refl _;
-}
+returns-in-Ok g c = record { ends = inl (refl, c.in-Ok.ensures.ok); quiet = λ zero. Keeps-refl _ }
 
 pub returns-in-Err : goal.returns-in-Err
 returns-in-Err g c =

@@ -1,8 +1,7 @@
 use Rattle.std.proofs.Common.{[], inl, inr, subst, Option, List}
 use Rattle.std.proofs.KnownBytes.{Appends-nil, Keeps-refl}
 use Rattle.clap.specs.Words.{Row, Text}
-use Rattle.arguments.specs.Asking.{Finds}
-use Rattle.arguments.proofs.Found.{found_ids}
+use Rattle.arguments.{specs.Asking.Finds, proofs.Found.found_ids}
 use Rattle.desk.proofs.Few.{found_few}
 use Rattle.desk.proofs.running.run_arguments.Goals as goal
 
@@ -10,8 +9,7 @@ pub returns-in-Err : goal.returns-in-Err
 returns-in-Err g c = inr (Keeps-refl _, c.tell_parse_error.ensures)
 
 pub returns-in_default : goal.returns-in_default
-returns-in_default g c =
-    inr (Keeps-refl _, inl (c.tell_bad_number.ensures, [], Appends-nil _))
+returns-in_default g c = inr (Keeps-refl _, inl (c.tell_bad_number.ensures, [], Appends-nil _))
 
 pub run_task-requires-clause-ids : goal.run_task-requires-clause-ids
 run_task-requires-clause-ids g c = found_ids _ c.in-Some.asked.task c.in-Some.ensures.task

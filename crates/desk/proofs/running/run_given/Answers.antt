@@ -17,5 +17,4 @@ returns g c =
     c.args.writer.now c.run_arguments.new.writer)
     (calls g.D.Dial.dialed c.args.dial.now c.run_arguments.new.dial)
     (told g.F.Write.contents c.args.faults.now c.run_arguments.new.faults) in
-    subst ran
-    (ap argument_texts c.deref.ensures.value ∙ c.in-Ok.ensures) c.run_arguments.ensures
+    subst ran (ap argument_texts c.deref.ensures.value ∙ c.in-Ok.ensures) c.run_arguments.ensures

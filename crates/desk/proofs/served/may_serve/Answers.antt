@@ -1,5 +1,4 @@
-use Rattle.std.proofs.Common.{◌≡◌, Bool, Bor, IsTrue, List, Option, ℕ, false, inl, inr, refl, rules}
-use Rattle.std.proofs.Common.{true}
+use Rattle.std.proofs.Common.{Bool, Bor, IsTrue, List, Option, ℕ, false, inr, refl, rules, true}
 use Rattle.arguments.specs.declared.task.HallService.{HallService}
 use Rattle.batch.specs.Dialing.{Dialed}
 use Rattle.hall_file.specs.declared.hall_file.HallFile.{HallFile}

@@ -1,12 +1,9 @@
-use Rattle.std.proofs.Common.{◌≡◌, ◌∙◌, Bor, List, ℕ, ap, false, inl, inr, map, option_map, refl}
-use Rattle.std.proofs.Common.{string_bytes, subst, true}
-use Rattle.std.proofs.KnownBytes.{Keeps-refl}
+use Rattle.std.proofs.Common.{◌∙◌, Bor, List, ℕ, ap, false, inl, inr, map, option_map, refl}
+use Rattle.std.proofs.{Common.string_bytes, Common.subst, Common.true, KnownBytes.Keeps-refl}
 use Rattle.desk_choice.specs.Keys.{key_file_of, naming}
+use Rattle.subcommands.specs.{Begun.AsksFirst, Services.IsServiceOf}
 use Rattle.desk_requests.specs.declared.fault.DeskFault.TheVariants as fault
-use Rattle.hall_file.specs.Halls.{texts_of}
 use Rattle.lines.specs.declared.fault.RunFault.TheVariants as run
-use Rattle.subcommands.specs.Begun.{AsksFirst}
-use Rattle.subcommands.specs.Services.{IsServiceOf}
 use Rattle.desk.proofs.served.run_hall_service.Goals as goal
 
 pub returns-in_default-clause-ends : goal.returns-in_default-clause-ends
@@ -64,8 +61,7 @@ returns-clause-ends g c =
             (subst (λ k. IsServiceOf service hall.hall c.args.wanted k
             (option_map (λ (t : Bor (List ℕ)). t.now) c.path_of-2.result)
             (map (λ (t : Bor (List ℕ)). t.now) c.deref-2.result.now))
-            (c.path_of.ensures ∙ c.in-Ok-hall_key_file.ensures.ok)
-            c.service_of-service.ensures)),
+            (c.path_of.ensures ∙ c.in-Ok-hall_key_file.ensures.ok) c.service_of-service.ensures)),
         subst (λ xs. AsksFirst c.args.file c.args.wanted hall xs true old new)
             (first ∙ c.in-Ok-addresses_of.ensures) asked,
         c.run_service.ensures.ends,

@@ -1,6 +1,5 @@
 use Rattle.sqlite.specs.Files.{file_state}
-use Rattle.desk_file.proofs.Opened.{held_before}
-use Rattle.desk_file.proofs.Using.{some_is}
+use Rattle.desk_file.proofs.{Opened.held_before, Using.some_is}
 use Rattle.desk_file.proofs.making.fill.Goals as goal
 
 pub returns-in-Ok-close_whole : goal.returns-in-Ok-close_whole

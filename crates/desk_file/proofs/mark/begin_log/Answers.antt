@@ -1,18 +1,15 @@
-use Rattle.std.proofs.Common.{◌≡◌, inl, ℕ, ◌/◌, ◌^◌, ◌≤◌, List, length, slice_index}
-use Rattle.std.proofs.Common.{◌<◌, refl, sym, ◌∙◌, ap, subst, arith}
-use Rattle.std.proofs.lemmas.Result.{on_ok_weaker}
+use Rattle.std.proofs.Common.{◌≡◌, inl, ℕ, ◌/◌, ◌^◌, ◌≤◌, List, length, ◌<◌, ◌∙◌, ap, subst, arith}
+use Rattle.std.proofs.{Common.slice_index, Common.refl, Common.sym, lemmas.Result.on_ok_weaker}
 use Rattle.sqlite_disk.specs.Disk.{Holds, Torn}
 use Rattle.sqlite_wal.specs.Format.{IsSigned, be32, part}
-use Rattle.sqlite_wal.proofs.FormatLemmas.{be32-part}
-use Rattle.sqlite_wal.proofs.PartLemmas.{slice_index-part}
+use Rattle.sqlite_wal.proofs.{FormatLemmas.be32-part, PartLemmas.slice_index-part}
 use Rattle.desk_file.specs.Marks.{IsLog, IsOfUse, IsShut}
 use Rattle.desk_file.proofs.Marking.{byte_read, first_of, header_read, is_log, number_read}
 use Rattle.desk_file.proofs.mark.begin_log.Goals as goal
 
 -- the log that was begun
 begun : (n : ℕ) (old log front salt : List ℕ) (k : ℕ) → 0x100_0000 ≤ n → n < 2 ^ 32
-    → length old ≡ 56
-    → Torn 0 k old log → Holds log 0 front → length front ≡ 41 → be32 front 12 ≡ 0
+    → length old ≡ 56 → Torn 0 k old log → Holds log 0 front → length front ≡ 41 → be32 front 12 ≡ 0
     → part front 16 8 ≡ salt → be32 salt 0 ≡ n → slice_index salt 0 ≡ n / 0x100_0000
     → slice_index front 40 ≡ 0 → IsSigned (part front 0 32) → IsLog n log
 begun n old log front salt k big fits long torn holds len round is named first gate signed =

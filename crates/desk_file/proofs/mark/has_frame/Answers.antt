@@ -2,8 +2,7 @@ use Rattle.std.proofs.Common.{◌≡◌, IsTrue, inl, inr, length, slice_index, 
 use Rattle.std.proofs.Common.{rules}
 use Rattle.std.proofs.lemmas.Bool.{false≢true}
 use Rattle.sqlite_disk.specs.Disk.{Holds}
-use Rattle.sqlite_wal.specs.Format.{IsSigned, be32}
-use Rattle.sqlite_wal.specs.Recovery.{header}
+use Rattle.sqlite_wal.specs.{Format.IsSigned, Format.be32, Recovery.header}
 use Rattle.desk_file.proofs.Marking.{byte_read, header_read, number_read, told_twice}
 use Rattle.desk_file.proofs.mark.has_frame.Goals as goal
 
@@ -47,13 +46,11 @@ returns c log is given =
     let signs = λ (yes : IsTrue c.is_signed.result).
     subst IsSigned h (c.is_signed.ensures.0 yes) in (
       λ yes. (
-        λ ignored.
-            elim ignored [ inl short ↦ absurd (omega arith) | inr isnt ↦ isnt (signs yes) ],
+        λ ignored. elim ignored [ inl short ↦ absurd (omega arith) | inr isnt ↦ isnt (signs yes) ],
         sym g ∙ c.if-gate-salt.false ∙ t,
         omega arith,
       ),
-      λ has.
-          told_twice c.is_signed.result (IsSigned (header log))
+      λ has. told_twice c.is_signed.result (IsSigned (header log))
           (signs, λ signed. c.is_signed.ensures.1 (subst IsSigned (sym h) signed))
           (λ isnt. has.0 (inr isnt)),
     )

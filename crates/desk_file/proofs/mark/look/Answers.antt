@@ -2,8 +2,7 @@ use Rattle.std.proofs.Common.{◌≡◌, ◌≢◌, ◌+◌, ◌≤◌, ap, slic
 use Rattle.std.proofs.lemmas.Bool.{false≢true}
 use Rattle.sqlite_disk.specs.Disk.{Holds}
 use Rattle.sqlite_wal.proofs.PartLemmas.{same_be32}
-use Rattle.desk_file.specs.Marks.{IsMarked, number_of}
-use Rattle.desk_file.proofs.Marking.{stands_by}
+use Rattle.desk_file.{specs.Marks.IsMarked, specs.Marks.number_of, proofs.Marking.stands_by}
 use Rattle.desk_file.proofs.mark.look.Goals as goal
 
 pub returns-then-branch-lt-USE_END-clause-ok : goal.returns-then-branch-lt-USE_END-clause-ok
@@ -21,8 +20,7 @@ returns-then-field-ne0-clause-ok g c log_clean clean =
     rw (← c.len.ensures.seen) (c.in_ok-read_at.ensures.read clean (omega arith)) in
     let is = c.in_ok-len.ensures.len (search rules) in
     let number : c.get_be32-number.result ≡ number_of db =
-    c.get_be32-number.ensures
-    ∙ same_be32 c.read_at.new.buf db 0 60 (λ i low. let at : 0 + i ≡ i =
+    c.get_be32-number.ensures ∙ same_be32 c.read_at.new.buf db 0 60 (λ i low. let at : 0 + i ≡ i =
     omega arith in ap (slice_index c.read_at.new.buf) at ∙ sym (holds.each i (omega arith))) in
     let len = c.in_ok-size.ensures.len (c.front_of.ensures.same.clean log_clean) in
     let front : 41 ≤ c.in_ok-size.size → Holds log 0 c.in_ok-front.front =
@@ -40,8 +38,7 @@ returns-then-number-eq0-clause-ok g c log_clean clean =
     rw (← c.len.ensures.seen) (c.in_ok-read_at.ensures.read clean (omega arith)) in
     let is = c.in_ok-len.ensures.len (search rules) in
     let number : c.get_be32-number.result ≡ number_of db =
-    c.get_be32-number.ensures
-    ∙ same_be32 c.read_at.new.buf db 0 60 (λ i low. let at : 0 + i ≡ i =
+    c.get_be32-number.ensures ∙ same_be32 c.read_at.new.buf db 0 60 (λ i low. let at : 0 + i ≡ i =
     omega arith in ap (slice_index c.read_at.new.buf) at ∙ sym (holds.each i (omega arith))) in
     let zero : slice_index db 60 ≡ 0 = holds.each 0 (omega arith) ∙ c.if-field-ne0.false in (
       λ marked. marked.1 zero,
@@ -56,8 +53,7 @@ returns-then-has_frame-clause-ok g c log_clean clean =
     rw (← c.len.ensures.seen) (c.in_ok-read_at.ensures.read clean (omega arith)) in
     let is = c.in_ok-len.ensures.len (search rules) in
     let number : c.get_be32-number.result ≡ number_of db =
-    c.get_be32-number.ensures
-    ∙ same_be32 c.read_at.new.buf db 0 60 (λ i low. let at : 0 + i ≡ i =
+    c.get_be32-number.ensures ∙ same_be32 c.read_at.new.buf db 0 60 (λ i low. let at : 0 + i ≡ i =
     omega arith in ap (slice_index c.read_at.new.buf) at ∙ sym (holds.each i (omega arith))) in
     let len = c.in_ok-size.ensures.len (c.front_of.ensures.same.clean log_clean) in
     let front : 41 ≤ c.in_ok-size.size → Holds log 0 c.in_ok-front.front =
@@ -77,15 +73,13 @@ returns-clause-ok g c log_clean clean =
     rw (← c.len.ensures.seen) (c.in_ok-read_at.ensures.read clean (omega arith)) in
     let is = c.in_ok-len.ensures.len (search rules) in
     let number : c.get_be32-number.result ≡ number_of db =
-    c.get_be32-number.ensures
-    ∙ same_be32 c.read_at.new.buf db 0 60 (λ i low. let at : 0 + i ≡ i =
+    c.get_be32-number.ensures ∙ same_be32 c.read_at.new.buf db 0 60 (λ i low. let at : 0 + i ≡ i =
     omega arith in ap (slice_index c.read_at.new.buf) at ∙ sym (holds.each i (omega arith))) in
     let len = c.in_ok-size.ensures.len (c.front_of.ensures.same.clean log_clean) in
     let front : 41 ≤ c.in_ok-size.size → Holds log 0 c.in_ok-front.front =
     λ long. rw (← c.len-2.ensures.seen) (c.in_ok-front.ensures.bytes log_clean long) in
     let zero : slice_index db 60 ≡ 0 = holds.each 0 (omega arith) ∙ c.if-field-ne0.false in (
       λ marked. marked.1 zero,
-      λ strange.
-          false≢true (sym c.if-has_frame.false
+      λ strange. false≢true (sym c.if-has_frame.false
           ∙ (c.has_frame.ensures log (sym len) front).1 strange.3),
     )

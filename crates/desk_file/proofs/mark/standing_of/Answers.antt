@@ -1,12 +1,11 @@
-use Rattle.std.proofs.Common.{◌≡◌, ◌≢◌, inl, inr, length}
-use Rattle.std.proofs.Common.{slice_index, sym, refl, ◌∙◌, subst, arith, rules}
+use Rattle.std.proofs.Common.{◌≡◌, ◌≢◌, inl, inr, length, slice_index, sym, refl, ◌∙◌, subst, arith}
+use Rattle.std.proofs.Common.{rules}
 use Rattle.std.proofs.lemmas.Bool.{false≢true}
 use Rattle.sqlite_disk.specs.Disk.{Holds}
-use Rattle.sqlite_wal.specs.Format.{IsSigned, be32}
-use Rattle.sqlite_wal.specs.Recovery.{header}
+use Rattle.sqlite_wal.specs.{Format.IsSigned, Format.be32, Recovery.header}
 use Rattle.desk_file.specs.Marks.{IsOfUse, IsShut}
-use Rattle.desk_file.proofs.Marking.{byte_read, header_read, is_log, number_read}
-use Rattle.desk_file.proofs.Marking.{too_short, unframed, unnamed, unsigned}
+use Rattle.desk_file.proofs.Marking.{byte_read, header_read, is_log, number_read, too_short}
+use Rattle.desk_file.proofs.Marking.{unframed, unnamed, unsigned}
 use Rattle.desk_file.proofs.mark.standing_of.Goals as goal
 
 pub returns-then-len-lt-FRONT_LEN : goal.returns-then-len-lt-FRONT_LEN

@@ -1,7 +1,6 @@
 use Rattle.std.proofs.Common.{◌≡◌, ◌+◌, ◌%◌, ◌<◌, ap, slice_index, sym, subst, ◌∙◌, arith}
 use Rattle.sqlite_disk.specs.Disk.{Holds}
-use Rattle.sqlite_wal.specs.Format.{be32}
-use Rattle.sqlite_wal.proofs.PartLemmas.{same_be32}
+use Rattle.sqlite_wal.{specs.Format.be32, proofs.PartLemmas.same_be32}
 use Rattle.desk_file.specs.Marks.{number_of}
 use Rattle.desk_file.proofs.mark.uses_of.Goals as goal
 

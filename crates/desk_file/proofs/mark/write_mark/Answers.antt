@@ -91,8 +91,7 @@ returns-in_err-put_byte-3-clause-grows g c mixes long bytes most counted ch leav
     let same = c.in_ok-put_byte-2.ensures.synced w.0 w.1 in
     elim (cut_low _ f2 (rw same at w.2)) [
       | inl k ↦ rise_middle _ c.args.number long bytes most k (omega arith) (omega arith)
-      | inr k ↦ rise_low _ c.args.number long bytes most k (omega arith) (omega arith)
-          (omega arith)
+      | inr k ↦ rise_low _ c.args.number long bytes most k (omega arith) (omega arith) (omega arith)
     ]
 
 pub returns-clause-grows : goal.returns-clause-grows
@@ -107,10 +106,8 @@ returns-clause-grows g c mixes long bytes most counted ch leaves =
     let w = c.put_byte-4.ensures.crash mixes ch leaves in
     let same = c.in_ok-put_byte-3.ensures.synced w.0 w.1 in
     elim (cut_first _ f3 (rw same at w.2)) [
-      | inl k ↦ rise_low _ c.args.number long bytes most k (omega arith) (omega arith)
-          (omega arith)
-      | inr k ↦ rise_low _ c.args.number long bytes most k (omega arith) (omega arith)
-          (omega arith)
+      | inl k ↦ rise_low _ c.args.number long bytes most k (omega arith) (omega arith) (omega arith)
+      | inr k ↦ rise_low _ c.args.number long bytes most k (omega arith) (omega arith) (omega arith)
     ]
 
 pub returns-clause-marked : goal.returns-clause-marked

@@ -1,6 +1,5 @@
-use Rattle.std.proofs.Common.{◌≡◌, ◌≤◌, ◌+◌, ◌%◌, inl, inr, refl, ap, sym, subst, ◌∙◌, length}
-use Rattle.std.proofs.Common.{arith}
-use Rattle.desk_file.specs.Marks.{CountsInBytes, IsMarked, uses_of}
+use Rattle.std.proofs.Common.{◌≤◌, ◌+◌, ◌%◌, inl, inr, refl, ap, subst, ◌∙◌, arith}
+use Rattle.desk_file.specs.Marks.{uses_of}
 use Rattle.desk_file.proofs.Marking.{also, in_field, same_bytes, same_count}
 use Rattle.desk_file.proofs.Using.{begun_or_free, between, counted_at, counted_still}
 use Rattle.desk_file.proofs.uses.begin_next.Goals as goal

@@ -13,7 +13,6 @@ pub returns-in-Ok-clause-damaged : goal.returns-in-Ok-clause-damaged
 returns-in-Ok-clause-damaged g c is =
     let fresh = c.in-Ok.ensures.fresh in (
       c.judge.new.files,
-      λ log db.
-          as_they_were AreApart (fresh_log g.S.Start c.in-Ok.files.log fresh.0)
+      λ log db. as_they_were AreApart (fresh_log g.S.Start c.in-Ok.files.log fresh.0)
           (fresh_db g.S.Start c.in-Ok.files.db fresh.1) (c.judge.ensures.damaged is log db),
     )

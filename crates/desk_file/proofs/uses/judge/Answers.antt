@@ -1,6 +1,5 @@
 use Rattle.std.proofs.Common.{inl, inr, subst}
-use Rattle.desk_file.specs.Marks.{Stands}
-use Rattle.desk_file.specs.declared.mark.FilesState.{FilesState}
+use Rattle.desk_file.specs.{Marks.Stands, declared.mark.FilesState.FilesState}
 use Rattle.desk_file.proofs.uses.judge.Goals as goal
 
 pub returns-in-Free-clause-ok : goal.returns-in-Free-clause-ok

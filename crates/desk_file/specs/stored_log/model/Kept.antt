@@ -1,8 +1,7 @@
 -- The log that a keeper's load gives.
 use Rattle.std.specs.Prelude.{◌≡◌, List}
 use Rattle.sqlite.specs.State.{HasCleanDisk, State}
-use Rattle.acceptor.specs.declared.entry.Entry.{Entry}
-use Rattle.acceptor.specs.declared.stored.Stored.{Stored}
+use Rattle.acceptor.specs.declared.{entry.Entry.Entry, stored.Stored.Stored}
 use Rattle.store.specs.declared.keeper.Keeper.{Ghosts}
 use Rattle.desk_file.specs.stored_log.StoredLogs.{HasLog}
 

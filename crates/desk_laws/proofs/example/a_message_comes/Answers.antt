@@ -1,5 +1,4 @@
-use Rattle.desk_laws.proofs.Message.{serving_works}
-use Rattle.desk_laws.proofs.SmallLoops.{loops_work}
+use Rattle.desk_laws.proofs.{Message.serving_works, SmallLoops.loops_work}
 use Rattle.desk_laws.proofs.example.a_message_comes.Goals as goal
 
 pub returns-clause-serving : goal.returns-clause-serving

@@ -1,6 +1,5 @@
 use Rattle.std.proofs.Common.{◌≡◌, inl, inr, refl, rules}
-use Rattle.batch.specs.Dialing.{place_of}
-use Rattle.batch.proofs.Trying.{fails_by}
+use Rattle.batch.{specs.Dialing.place_of, proofs.Trying.fails_by}
 use Rattle.wire.specs.Ranges.{IsDesk}
 use Rattle.desk_requests.proofs.Entered.{stopped, unbegun}
 use Rattle.desk_requests.specs.Statuses.{fault_of_batch}

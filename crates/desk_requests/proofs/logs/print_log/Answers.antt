@@ -1,7 +1,5 @@
-use Rattle.std.proofs.Common.{inl, refl, rules}
-use Rattle.std.proofs.KnownBytes.{Keeps-refl}
-use Rattle.batch.specs.Dialing.{place_of}
-use Rattle.batch.proofs.Going.{adds_none}
+use Rattle.std.proofs.{Common.inl, Common.refl, Common.rules, KnownBytes.Keeps-refl}
+use Rattle.batch.{specs.Dialing.place_of, proofs.Going.adds_none}
 use Rattle.wire.specs.Ranges.{IsDesk}
 use Rattle.desk_requests.proofs.logs.print_log.Goals as goal
 

@@ -1,7 +1,6 @@
 use Rattle.std.proofs.Common.{[], inl, inr, refl, rules}
 use Rattle.std.proofs.KnownBytes.{Appends-nil, Keeps-refl}
-use Rattle.batch.specs.Dialing.{place_of}
-use Rattle.batch.proofs.Going.{adds_none}
+use Rattle.batch.{specs.Dialing.place_of, proofs.Going.adds_none}
 use Rattle.client.specs.Printing.{reply_text}
 use Rattle.wire.specs.Ranges.{IsDesk}
 use Rattle.desk_requests.proofs.newest.print_newest.Goals as goal

@@ -1,6 +1,5 @@
 use Rattle.std.proofs.Common.{arith}
-use Rattle.desk_requests.specs.Polling.{PollsAll}
-use Rattle.desk_requests.proofs.Polled.{polls_all, polls_few}
+use Rattle.desk_requests.{specs.Polling.PollsAll, proofs.Polled.polls_all, proofs.Polled.polls_few}
 use Rattle.desk_requests.proofs.polling.polled_of.Goals as goal
 
 pub returns-clause-all : goal.returns-clause-all

@@ -1,5 +1,4 @@
-use Rattle.desk_requests.specs.Polling.{outside}
-use Rattle.desk_requests.proofs.Polled.{reports, unwritten}
+use Rattle.desk_requests.{specs.Polling.outside, proofs.Polled.reports, proofs.Polled.unwritten}
 use Rattle.desk_requests.proofs.polling.print_standings.Goals as goal
 
 pub returns-in-Ok-write_text-clause-ok : goal.returns-in-Ok-write_text-clause-ok

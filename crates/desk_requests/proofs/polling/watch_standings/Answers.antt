@@ -7,8 +7,7 @@ loop-report-init g c = ([], (refl, refl))
 
 pub loop-report-preserved : goal.loop-report-preserved
 loop-report-preserved g c =
-    watched_on c.args.form c.args.inquiry _ _ _ _ _ _ _ c.loop-report.invariant
-    c.in-Ok.ensures.ok
+    watched_on c.args.form c.args.inquiry _ _ _ _ _ _ _ c.loop-report.invariant c.in-Ok.ensures.ok
 
 pub returns-in-Err-clause-err : goal.returns-in-Err-clause-err
 returns-in-Err-clause-err g c =

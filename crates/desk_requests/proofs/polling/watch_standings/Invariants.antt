@@ -1,5 +1,4 @@
-use Rattle.desk_requests.specs.Polling.{outside}
-use Rattle.desk_requests.specs.Watching.{HasWatched}
+use Rattle.desk_requests.specs.{Polling.outside, Watching.HasWatched}
 use Rattle.desk_requests.proofs.polling.watch_standings.Given as goal
 
 -- this many reports were written

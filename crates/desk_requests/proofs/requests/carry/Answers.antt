@@ -16,9 +16,6 @@ returns-in_default-clause-err g c =
       (
         [],
         answer_text c.args.errand c.in-Ok.answer,
-        record {
-          parts = refl;
-          written = Appends-nil _;
-        },
+        record { parts = refl; written = Appends-nil _ },
       ),
     )

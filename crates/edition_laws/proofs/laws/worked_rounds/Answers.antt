@@ -1,7 +1,5 @@
 use Rattle.std.proofs.Common.{refl}
-use Rattle.std.specs.Char.{encode_utf8}
-use Rattle.std.specs.Fmt.{digits}
-use Rattle.std.specs.Str.{chars, is_utf8}
+use Rattle.std.specs.{Char.encode_utf8, Fmt.digits, Str.chars, Str.is_utf8}
 use Rattle.ucd_table.specs.Rows.{value_in}
 use Rattle.ucd_category.specs.GeneralCategory.{general_category}
 use Rattle.ucd_category.specs.GeneralCategoryRows.{general_category_rows}
@@ -10,12 +8,8 @@ use Rattle.cube.specs.Turns.{turned}
 use Rattle.fmc_check.specs.Fewest.{is_solved, is_solution, result_of}
 use Rattle.formats.specs.Events.{event_of_name, format_named}
 use Rattle.texts.specs.Fields.{cut, number_between, name_of, new_name_of, move_of, moves_of}
-use Rattle.texts.specs.Fields.{entered_of}
-use Rattle.texts.specs.Names.{is_clear_name}
-use Rattle.texts.specs.Reading.{command_of}
-use Rattle.texts.specs.Table.{rows}
-use Rattle.commands.specs.Accepted.{round_in}
-use Rattle.commands.specs.History.{after_in, entry_refusal_in}
+use Rattle.texts.specs.{Fields.entered_of, Names.is_clear_name, Reading.command_of, Table.rows}
+use Rattle.commands.specs.{Accepted.round_in, History.after_in, History.entry_refusal_in}
 use Rattle.sheets.specs.Sheet.{entrant_line, entrant_record}
 use Rattle.edition_laws.proofs.laws.worked_rounds.Goals as goal
 

@@ -1,5 +1,4 @@
-use Rattle.std.proofs.Common.{refl}
-use Rattle.std.specs.Fmt.{digits}
+use Rattle.std.{proofs.Common.refl, specs.Fmt.digits}
 use Rattle.csv.specs.Writing.{escaped, fields_text, is_blank}
 use Rattle.cube.specs.Turns.{turned}
 use Rattle.fmc_check.specs.Fewest.{is_solved, is_solution, result_of}

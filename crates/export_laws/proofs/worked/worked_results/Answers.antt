@@ -1,5 +1,4 @@
-use Rattle.std.proofs.Common.{refl}
-use Rattle.std.specs.Fmt.{digits}
+use Rattle.std.{proofs.Common.refl, specs.Fmt.digits}
 use Rattle.json.specs.Print.{escape_byte, print_from}
 use Rattle.wcif_results.specs.Results.{result_json, results_json}
 use Rattle.export_laws.proofs.worked.worked_results.Goals as goal

@@ -1,5 +1,4 @@
-use Rattle.std.proofs.Common.{rules, subst}
-use Rattle.std.specs.Io.KnownBytes.{Appends}
+use Rattle.std.{proofs.Common.rules, proofs.Common.subst, specs.Io.KnownBytes.Appends}
 use Rattle.lines.specs.Bytes.{AppendsPart}
 use Rattle.exports.proofs.Whole.{fails, fails_by, makes}
 use Rattle.exports.specs.Files.{FailsExport}
@@ -12,8 +11,7 @@ returns-in_err-made-clause-err g c =
     let old = g.W.Write.contents c.args.writer.now in
     let e = c.in_err-made.field-0.0 in
     fails_by (λ f. FailsExport f c.args.running file log old old) c.from_residual.result e
-    (search rules)
-    (fails e c.args.running file log old c.in-Ok.bytes.items c.deref.result.now
+    (search rules) (fails e c.args.running file log old c.in-Ok.bytes.items c.deref.result.now
     c.in-Ok-read_log.meet c.in-Ok.ensures c.deref.ensures.value c.in-Ok-read_log.ensures.ok
     c.in_err-made.ensures.err)
 

@@ -2,8 +2,7 @@ use Rattle.std.proofs.Common.{◌≡◌, ◌∙◌, ◌++◌, ap₂, rules, subs
 use Rattle.commands.specs.History.{after}
 use Rattle.replay.proofs.Applied.{gives_true}
 use Rattle.exports.proofs.Applied.{one_more, starved, stops}
-use Rattle.exports.proofs.Whole.{fails_by}
-use Rattle.exports.specs.model.Applying.{AppliesNotAll}
+use Rattle.exports.{proofs.Whole.fails_by, specs.model.Applying.AppliesNotAll}
 use Rattle.exports.proofs.logs.apply_lines.Goals as goal
 
 pub loop-meet-preserved : goal.loop-meet-preserved
@@ -12,10 +11,8 @@ loop-meet-preserved g c =
     let line = gives_true c.in-Ok-true.field-0 c.read_line.new.self c.read_line.new.line.items i.0
     (g.R.Read.remaining c.args.reader.now) (g.R.Read.remaining c.read_line.new.reader)
     c.in-Ok-true.field-0-test (c.in-Ok-true.ensures i.0 _ i.1.read) in
-    let meet :
-    c.apply_line.new.meet
-    ≡ after c.loop-meet.meet c.read_line.new.self.lines c.read_line.new.line.items =
-    c.in_ok-apply_line-in-Ok-true.ensures.after
+    let meet : c.apply_line.new.meet ≡ after c.loop-meet.meet c.read_line.new.self.lines
+    c.read_line.new.line.items = c.in_ok-apply_line-in-Ok-true.ensures.after
     ∙ ap₂ (after c.loop-meet.meet) c.count.ensures c.deref.ensures.value in
     (i.0 ++ line.more, one_more _ _ _ _ _ i.0 _ _ _ i.1 line meet)
 

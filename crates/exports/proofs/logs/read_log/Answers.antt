@@ -1,6 +1,5 @@
 use Rattle.std.proofs.Common.{◌≡◌, ◌∙◌, ap, false, rules, sym, true}
-use Rattle.exports.proofs.Whole.{cut_off, reads}
-use Rattle.exports.specs.Logs.{is_whole}
+use Rattle.exports.{proofs.Whole.cut_off, proofs.Whole.reads, specs.Logs.is_whole}
 use Rattle.exports.proofs.logs.read_log.Goals as goal
 
 pub returns-then-not-is_whole-clause-err : goal.returns-then-not-is_whole-clause-err

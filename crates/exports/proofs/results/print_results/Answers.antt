@@ -1,9 +1,7 @@
 use Rattle.std.proofs.Common.{rules, subst, sym}
-use Rattle.std.proofs.KnownBytes.{Keeps-refl}
-use Rattle.std.specs.Io.KnownBytes.{Appends}
+use Rattle.std.{proofs.KnownBytes.Keeps-refl, specs.Io.KnownBytes.Appends}
 use Rattle.lines.specs.Bytes.{AppendsPart}
-use Rattle.exports.proofs.Whole.{fails_by}
-use Rattle.exports.specs.Results.{FailsResults}
+use Rattle.exports.{proofs.Whole.fails_by, specs.Results.FailsResults}
 use Rattle.exports.proofs.results.print_results.Goals as goal
 
 pub returns-in_err-text-clause-err : goal.returns-in_err-text-clause-err

@@ -1,6 +1,5 @@
 use Rattle.std.proofs.Common.{◌≡◌, ◌∙◌, ◌+◌, ◌-◌, ◌++◌, ◌∷◌, [], ℕ, List, true, false, suc, sym, ap}
-use Rattle.std.proofs.Common.{None, Some, map, arith}
-use Rattle.std.proofs.lemmas.List.{map-append}
+use Rattle.std.proofs.{Common.None, Common.Some, Common.map, Common.arith, lemmas.List.map-append}
 use Rattle.form_data.specs.Bodies.{Found, closes, next_part, parts_after, shown}
 use Rattle.form_data.proofs.PartLemmas.{onto, onto_none, finds_part, finds_close, finds_none}
 use Rattle.form_data.proofs.PartLemmas.{finds_no_close}

@@ -1,6 +1,5 @@
 use Rattle.std.proofs.Common.{◌≡◌, ◌-◌, map}
-use Rattle.form_data.specs.Bodies.{parts_after, shown}
-use Rattle.form_data.proofs.PartLemmas.{onto}
+use Rattle.form_data.{specs.Bodies.parts_after, specs.Bodies.shown, proofs.PartLemmas.onto}
 use Rattle.form_data.proofs.bodies.parts_after.Given as goal
 
 abbrev pub invariant-loop-taken : goal.invariant-loop-taken

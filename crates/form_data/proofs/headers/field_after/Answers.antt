@@ -1,6 +1,5 @@
 use Rattle.std.proofs.Common.{◌≡◌, ◌∙◌, ◌+◌, suc, true, false, drop, ap, ℕ, arith}
-use Rattle.form_data.specs.Cutting.{begins_as}
-use Rattle.form_data.specs.Headers.{field_after}
+use Rattle.form_data.specs.{Cutting.begins_as, Headers.field_after}
 use Rattle.form_data.proofs.Words.{field_here, field_later}
 use Rattle.form_data.proofs.headers.field_after.Goals as goal
 

@@ -1,7 +1,6 @@
 use Rattle.std.proofs.Common.{◌≡◌, true, length, refl, subst, sym, arith}
 use Rattle.std.proofs.lemmas.Bool.Decides.{nat_tests}
-use Rattle.formats.specs.Results.{has_average}
-use Rattle.formats.proofs.Sums.{sum-numbers}
+use Rattle.formats.{specs.Results.has_average, proofs.Sums.sum-numbers}
 use Rattle.formats.proofs.results.average.Goals as goal
 
 pub trimmed-requires : goal.trimmed-requires

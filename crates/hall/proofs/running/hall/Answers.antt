@@ -15,25 +15,21 @@ returns-in_err-do_lines-clause-err g c =
     let small : c.args.desks ≤ 255 = omega arith in
     let f = c.in_err-do_lines.ensures.err in
     let same : c.from_residual.result ≡ Err c.in_err-do_lines.field-0.0 = search rules in
-    rw same
-    (f.0, f.1, fails_among c.in_err-do_lines.field-0.0 c.args.desks f.0 _ _ _ small f.2)
+    rw same (f.0, f.1, fails_among c.in_err-do_lines.field-0.0 c.args.desks f.0 _ _ _ small f.2)
 
 pub returns-clause-err : goal.returns-clause-err
 returns-clause-err g c =
     let small : c.args.desks ≤ 255 = omega arith in
     let f = c.in_ok-do_lines.ensures.ok in
-    if_unwritten c.write_logs.result
-    (λ e stopped part. (
+    if_unwritten c.write_logs.result (λ e stopped part. (
       f.0,
       f.1,
       fails_behind e c.args.desks _ f.0 _ _ _ _ small stopped f.2 part,
-    ))
-    c.write_logs.ensures.fault c.write_logs.ensures.err
+    )) c.write_logs.ensures.fault c.write_logs.ensures.err
 
 pub returns-clause-ok : goal.returns-clause-ok
 returns-clause-ok g c =
     let small : c.args.desks ≤ 255 = omega arith in
     let f = c.in_ok-do_lines.ensures.ok in
     if_written c.write_logs.result
-    (λ last. (f.0, f.1, runs c.args.desks _ f.0 _ _ _ _ small f.2 last))
-    c.write_logs.ensures.ok
+    (λ last. (f.0, f.1, runs c.args.desks _ f.0 _ _ _ _ small f.2 last)) c.write_logs.ensures.ok

@@ -17,5 +17,4 @@ loop-pos-preserved g c =
     c.in-Ok-write_long.ensures.ok
 
 pub returns-clause-err : goal.returns-clause-err
-returns-clause-err g c =
-    log_unwritten _ _ _ _ _ _ _ c.loop-pos.invariant c.in-Err.ensures.err
+returns-clause-err g c = log_unwritten _ _ _ _ _ _ _ c.loop-pos.invariant c.in-Err.ensures.err

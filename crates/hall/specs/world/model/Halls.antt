@@ -4,10 +4,8 @@ use Rattle.std.specs.Prelude.{ℕ, suc, ◌≡◌, ◌+◌, ◌==◌, if◌then�
 use Rattle.std.specs.Prelude.{Some, None, Result, Ok, Err}
 use Rattle.acceptor.specs.declared.message.Message.{Message}
 use Rattle.proposer.specs.declared.fault.Refusal.{Refusal}
-use Rattle.learner.specs.declared.event.WorldEvent.{WorldEvent}
-use Rattle.learner.specs.Desks.{Desk, first_desk}
-use Rattle.learner.specs.Steps.{Done}
-use Rattle.learner.specs.Worlds.{World, after}
+use Rattle.learner.specs.{declared.event.WorldEvent.WorldEvent, Steps.Done}
+use Rattle.learner.specs.{Desks.Desk, Desks.first_desk, Worlds.World, Worlds.after}
 use Rattle.hall.specs.world.WorldValues.{last_refusal}
 use Rattle.replica.specs.roles.model.RunningDesks.{RunningDesk}
 

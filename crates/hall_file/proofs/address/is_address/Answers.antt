@@ -1,7 +1,5 @@
-use Rattle.std.proofs.Common.{◌≡◌, ℕ, List, ◌∷◌, ◌++◌, take, drop, sym, ◌∙◌, refl}
-use Rattle.std.proofs.Common.{arith, eqb}
-use Rattle.std.specs.Str.{NoCharPasses}
-use Rattle.std.specs.Str.Pattern.{HasCharAt}
+use Rattle.std.proofs.Common.{◌≡◌, ℕ, List, ◌∷◌, ◌++◌, take, drop, sym, ◌∙◌, refl, arith, eqb}
+use Rattle.std.specs.Str.{NoCharPasses, Pattern.HasCharAt}
 use Rattle.std.proofs.lemmas.Bool.{false≢true}
 use Rattle.std.proofs.lemmas.List.{take-append-drop}
 use Rattle.std.proofs.lemmas.Str.Pattern.{NoCharPasses-char, drop_at_char}

@@ -1,7 +1,6 @@
 use Rattle.std.proofs.Common.{◌≡◌, sym, ap, ◌∙◌, arith, Ok}
 use Rattle.std.specs.Fmt.{decimal}
-use Rattle.std.proofs.lemmas.Bool.Decides.{nat_tests}
-use Rattle.std.proofs.lemmas.Fmt.{parse-decimal}
+use Rattle.std.proofs.lemmas.{Bool.Decides.nat_tests, Fmt.parse-decimal}
 use Rattle.hall_file.proofs.Texts.{same_texts}
 use Rattle.hall_file.proofs.address.is_port.Goals as goal
 

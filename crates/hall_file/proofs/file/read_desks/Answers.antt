@@ -1,6 +1,5 @@
 use Rattle.std.proofs.Common.{sym}
-use Rattle.toml.specs.View.{view, table_view}
-use Rattle.toml.proofs.Views.{table_get}
+use Rattle.toml.{specs.View.view, specs.View.table_view, proofs.Views.table_get}
 use Rattle.hall_file.specs.Members.{desks_name}
 use Rattle.hall_file.proofs.file.read_desks.Goals as goal
 

@@ -1,5 +1,4 @@
-use Rattle.toml.specs.View.{table_view}
-use Rattle.toml.proofs.Views.{table_get}
+use Rattle.toml.{specs.View.table_view, proofs.Views.table_get}
 use Rattle.hall_file.specs.Lines.{IsDocument}
 use Rattle.hall_file.proofs.Got.{none_seen, none_found, lacks}
 use Rattle.hall_file.proofs.line.is_without.Goals as goal

@@ -1,6 +1,5 @@
 use Rattle.std.proofs.Common.{refl, subst}
-use Rattle.hall_file.specs.Addresses.{AreAddresses}
-use Rattle.hall_file.proofs.Choices.{same_texts_of}
+use Rattle.hall_file.{specs.Addresses.AreAddresses, proofs.Choices.same_texts_of}
 use Rattle.hall_file.proofs.making.hall_of_addresses.Goals as goal
 
 pub returns-clause-ok : goal.returns-clause-ok

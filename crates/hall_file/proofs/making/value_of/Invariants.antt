@@ -1,6 +1,5 @@
 use Rattle.std.proofs.Common.{◌≡◌, map, take}
-use Rattle.toml.specs.Data.{string}
-use Rattle.toml.specs.View.{view}
+use Rattle.toml.specs.{Data.string, View.view}
 use Rattle.hall_file.proofs.making.value_of.Given as goal
 
 abbrev pub invariant-loop-text : goal.invariant-loop-text

@@ -1,6 +1,5 @@
 use Rattle.std.proofs.Common.{◌≡◌, false, map, take, string_bytes}
-use Rattle.std.specs.Prelude.{bytes_eq}
-use Rattle.std.specs.List.{list_any}
+use Rattle.std.specs.{Prelude.bytes_eq, List.list_any}
 use Rattle.hall_file.proofs.members.is_among.Given as goal
 
 abbrev pub invariant-loop-other : goal.invariant-loop-other

@@ -7,5 +7,4 @@ abbrev pub invariant-members : goal.invariant-members
 invariant-members l =
     (goal.iterator-members).can_next l.name-iterator
     × (goal.iterator-members).is_finite l.name-iterator
-    × (unknown_name (members_view l.name-iterator)
-    ≡ unknown_name (members_view l.table.entries))
+    × (unknown_name (members_view l.name-iterator) ≡ unknown_name (members_view l.table.entries))

@@ -1,6 +1,5 @@
 use Rattle.std.proofs.Common.{◌≡◌, map, take, string_bytes}
-use Rattle.toml.specs.Data.{string}
-use Rattle.toml.specs.View.{view}
+use Rattle.toml.specs.{Data.string, View.view}
 use Rattle.hall_file.proofs.printing.list_of.Given as goal
 
 abbrev pub invariant-loop-desk : goal.invariant-loop-desk

@@ -1,4 +1,4 @@
-use Rattle.hall_laws.proofs.Arrivals.{messages_arrive, runs_arrive}
+use Rattle.hall_laws.proofs.OwnMessages.{messages_arrive, runs_arrive}
 use Rattle.hall_laws.proofs.arriving.messages_arrive.Goals as goal
 
 pub returns-clause-messages : goal.returns-clause-messages

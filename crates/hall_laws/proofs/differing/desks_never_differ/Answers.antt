@@ -1,6 +1,5 @@
-use Rattle.hall_laws.proofs.Alike.{hall_decideds_stand, hall_lengths_grow, hall_runs_agree}
-use Rattle.hall_laws.proofs.HallExample.{small_run_comes_in_order}
-use Rattle.hall_laws.proofs.Ordered.{hall_never_differs}
+use Rattle.hall_laws.proofs.Heard.{hall_decideds_stand, hall_lengths_grow, hall_runs_agree}
+use Rattle.hall_laws.proofs.{HallExample.small_run_comes_in_order, Ordered.hall_never_differs}
 use Rattle.hall_laws.proofs.differing.desks_never_differ.Goals as goal
 
 pub returns-clause-decided : goal.returns-clause-decided

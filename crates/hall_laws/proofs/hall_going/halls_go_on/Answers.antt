@@ -1,7 +1,5 @@
-use Rattle.hall_laws.proofs.HallComing.{frames_go_on, messages_go_on, runs_go_on}
-use Rattle.hall_laws.proofs.HallGoing.{ticks_go_on}
-use Rattle.hall_laws.proofs.HallStarts.{starts_come}
-use Rattle.hall_laws.proofs.HallWorlds.{worlds_follow}
+use Rattle.hall_laws.proofs.HallFrames.{frames_go_on, messages_go_on, runs_go_on}
+use Rattle.hall_laws.proofs.{HallGoing.ticks_go_on, HallGoing.worlds_follow, HallStarts.starts_come}
 use Rattle.hall_laws.proofs.hall_going.halls_go_on.Goals as goal
 
 pub returns-clause-ticks : goal.returns-clause-ticks

@@ -1,10 +1,8 @@
-use Rattle.hall_laws.proofs.HallExample.{small_run_is_a_run}
+use Rattle.hall_laws.proofs.{HallExample.small_run_is_a_run, Losses.losses_are_nothing}
 use Rattle.hall_laws.proofs.HallRuns.{halls_are_runs as law, hall_logs_agree}
 use Rattle.hall_laws.proofs.HallRuns.{hall_entries_are_submitted, hall_messages_are_named}
-use Rattle.hall_laws.proofs.HallSheets.{hall_answers_wait, hall_sheets, hall_sheets_agree}
-use Rattle.hall_laws.proofs.HallTurns.{own_ticks_are_events, settlings_are_events}
-use Rattle.hall_laws.proofs.HallTurns.{turns_are_events}
-use Rattle.hall_laws.proofs.Losses.{losses_are_nothing}
+use Rattle.hall_laws.proofs.HallCopies.{hall_answers_wait, hall_sheets, hall_sheets_agree}
+use Rattle.hall_laws.proofs.HallGoing.{own_ticks_are_events, settlings_are_events, turns_are_events}
 use Rattle.hall_laws.proofs.Lost.{lost_work}
 use Rattle.hall_laws.proofs.hall_runs.halls_are_runs.Goals as goal
 
@@ -17,8 +15,7 @@ returns-clause-logs_agree g c =
 
 pub returns-clause-submitted : goal.returns-clause-submitted
 returns-clause-submitted g c =
-    hall_entries_are_submitted _ c.calls_are_happenings.ensures
-    c.stops_make_a_run.ensures.submitted
+    hall_entries_are_submitted _ c.calls_are_happenings.ensures c.stops_make_a_run.ensures.submitted
 
 pub returns-clause-answers : goal.returns-clause-answers
 returns-clause-answers g c = hall_answers_wait _ c.calls_are_happenings.ensures
@@ -50,8 +47,7 @@ returns-clause-lost g c =
 
 pub returns-clause-losses : goal.returns-clause-losses
 returns-clause-losses g c =
-    losses_are_nothing _
-    (lost_work _ c.calls_are_happenings.ensures
+    losses_are_nothing _ (lost_work _ c.calls_are_happenings.ensures
     (λ x s log settled found. g.met.K.Keeper.rests x s log settled found))
 
 pub returns-clause-example : goal.returns-clause-example

@@ -1,6 +1,5 @@
 use Rattle.hall_laws.specs.Memory.{memory}
-use Rattle.hall_laws.proofs.Calls.{calls_are_happenings}
-use Rattle.hall_laws.proofs.HallTangle.{tangle_is_decided}
+use Rattle.hall_laws.proofs.{Calls.calls_are_happenings, HallTangle.tangle_is_decided}
 use Rattle.hall_laws.proofs.hall_serving.a_tangle_is_decided.Goals as goal
 
 pub returns : goal.returns

@@ -1,4 +1,4 @@
-use Rattle.hall_laws.proofs.HallDeciding.{serving_decides}
+use Rattle.hall_laws.proofs.HallProgress.{serving_decides}
 use Rattle.hall_laws.proofs.hall_serving.majorities_decide.Goals as goal
 
 pub returns : goal.returns

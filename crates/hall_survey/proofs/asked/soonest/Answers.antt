@@ -11,10 +11,8 @@ loop-one-preserved c =
     let one = c.one-item.result in
     let earlier : c.min-wait.result ≡ min (wait_of one.survey.line c.args.now) c.loop-one.wait =
     search rules in
-    subst
-    (λ (w : ℕ). least_of w (waits_of (drop (place + 1) asked) c.args.now)
-    ≡ least_of 1000 (waits_of asked c.args.now))
-    (sym earlier)
+    subst (λ (w : ℕ). least_of w (waits_of (drop (place + 1) asked) c.args.now)
+    ≡ least_of 1000 (waits_of asked c.args.now)) (sym earlier)
     (goes_on asked c.args.now place c.loop-one.wait _ one c.loop-one-test.true c.one-item.is
     c.loop-one.invariant)
 

@@ -1,8 +1,7 @@
 use Rattle.std.proofs.Common.{◌≡◌, ℕ, List, length, sym, subst, ◌∙◌}
 use Rattle.std.specs.Prelude.{◌↔◌, IsSome}
 use Rattle.std.specs.List.{AllPass}
-use Rattle.hex.specs.Hex.{is_hex_digit}
-use Rattle.hex.proofs.HexLemmas.{IsOk-decode_sized}
+use Rattle.hex.{specs.Hex.is_hex_digit, proofs.HexLemmas.IsOk-decode_sized}
 use Rattle.keys.proofs.reading.read_key.Goals as goal
 
 pub returns-clause-found : goal.returns-clause-found

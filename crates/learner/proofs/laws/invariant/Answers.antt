@@ -1,5 +1,4 @@
-use Rattle.learner.proofs.Runs.{after_sound}
-use Rattle.learner.proofs.Origins.{contents_stand}
+use Rattle.learner.proofs.{Runs.after_sound, Origins.contents_stand}
 use Rattle.learner.proofs.InRange.{messages_are_in_range, desks_are_in_range}
 use Rattle.learner.proofs.Parts.{has_one_entry, votes_stand, promises_stand, accepts_are_backed}
 use Rattle.learner.proofs.Parts.{decisions_are_chosen, roles_stand}

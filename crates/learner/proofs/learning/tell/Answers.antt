@@ -1,8 +1,7 @@
 use Rattle.std.proofs.Common.{◌≡◌, ◌≤◌, ◌-◌, None, slice_get, take, drop, ap, sym, ◌∙◌, arith}
-use Rattle.learner.specs.Learning.{told}
-use Rattle.learner.proofs.Told.{told_step, told_end}
-use Rattle.learner.proofs.learning.tell.Goals as goal
+use Rattle.learner.{specs.Learning.told, proofs.Told.told_step, proofs.Told.told_end}
 use Rattle.learner.proofs.learning.tell.Goals.{in-Some+in_ok-entry+in_ok-push, in_default}
+use Rattle.learner.proofs.learning.tell.Goals as goal
 
 pub loop-pos-preserved : goal.loop-pos-preserved
 loop-pos-preserved c =

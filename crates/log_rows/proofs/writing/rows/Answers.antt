@@ -1,5 +1,4 @@
-use Rattle.log_rows.specs.Rows.{heading, row_from}
-use Rattle.log_rows.proofs.Steps.{one_more}
+use Rattle.log_rows.{specs.Rows.heading, specs.Rows.row_from, proofs.Steps.one_more}
 use Rattle.log_rows.proofs.writing.rows.Goals as goal
 
 pub loop-position-preserved : goal.loop-position-preserved

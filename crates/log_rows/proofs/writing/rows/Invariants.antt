@@ -7,6 +7,5 @@ use Rattle.log_rows.proofs.writing.rows.Given as goal
 -- the entries in front of the position are taken in, and their rows are there
 abbrev pub invariant-loop-position : goal.invariant-loop-position
 invariant-loop-position l =
-    IsTranscript l.transcript (take l.position l.log.entries)
-    × (l.out.items
+    IsTranscript l.transcript (take l.position l.log.entries) × (l.out.items
     ≡ heading ++ flat_map (row_from l.from l.shown l.log.entries) (range_with_len 0 l.position))

@@ -1,6 +1,5 @@
 use Rattle.std.proofs.Common.{◌≡◌, ◌+◌, Some, slice_get, take, sym, subst}
-use Rattle.answers.proofs.Transcripts.{take_more}
-use Rattle.answers.specs.Transcripts.{IsTranscript}
+use Rattle.answers.{proofs.Transcripts.take_more, specs.Transcripts.IsTranscript}
 use Rattle.log_rows.proofs.writing.take_row.Goals as goal
 
 pub returns : goal.returns

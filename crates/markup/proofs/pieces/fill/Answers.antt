@@ -1,11 +1,8 @@
-use Rattle.std.proofs.Common.{◌≡◌, ◌∙◌, ◌++◌, ◌+◌, ◌<◌, ◌≤◌, ◌∷◌, ◌==◌, [], ℕ, false, List}
-use Rattle.std.proofs.Common.{ap, append-nil, append_assoc, arith, drop, get_or, length, map, refl}
-use Rattle.std.proofs.Common.{sym}
+use Rattle.std.proofs.Common.{◌≡◌, ◌∙◌, ◌++◌, ◌+◌, ◌<◌, ◌≤◌, ◌∷◌, ◌==◌, [], ℕ, false, List, ap}
+use Rattle.std.proofs.Common.{append-nil, append_assoc, arith, drop, get_or, length, map, refl, sym}
 use Rattle.std.proofs.Math.ListN.{drop_of_length-le}
-use Rattle.std.proofs.lemmas.Bool.Decides.{nat_tests}
-use Rattle.std.proofs.lemmas.List.{drop_more}
-use Rattle.markup.specs.Pieces.{fill, piece_text}
-use Rattle.markup.specs.declared.pieces.Piece.{Piece}
+use Rattle.std.proofs.lemmas.{Bool.Decides.nat_tests, List.drop_more}
+use Rattle.markup.specs.{Pieces.fill, Pieces.piece_text, declared.pieces.Piece.Piece}
 use Rattle.markup.proofs.pieces.fill.Goals.{then-byte-eq36+then-next-pieces+in_ok-push_piece}
 use Rattle.markup.proofs.pieces.fill.Goals.{else-byte-eq36+in_ok-push}
 use Rattle.markup.proofs.pieces.fill.Goals.{else-byte-eq36-via-then-byte-eq36+else-next-pieces}
@@ -42,8 +39,7 @@ module _ (html out : List ℕ) (ps : List Piece) (i n : ℕ) (within : i < lengt
       ≡ out ++ rest (drop i html) n
   filled p is some =
       append_assoc out (piece_text (get_or ps n p)) (rest (drop (i + 1) html) (n + 1))
-      ∙ ap (λ l. out ++ l)
-      (sym (rw (drop_more html i 0 within, is, drop_more ps n p some)
+      ∙ ap (λ l. out ++ l) (sym (rw (drop_more html i 0 within, is, drop_more ps n p some)
       (hole (drop (i + 1) html) (piece_text (get_or ps n p)) (map piece_text (drop (n + 1) ps)))))
 
   copied : fill (get_or html i 0 ∷ drop (i + 1) html) (map piece_text (drop n ps))
@@ -53,12 +49,10 @@ module _ (html out : List ℕ) (ps : List Piece) (i n : ℕ) (within : i < lengt
       append_assoc out (get_or html i 0 ∷ []) (rest (drop (i + 1) html) n)
       ∙ ap (λ l. out ++ l) (sym (rw (drop_more html i 0 within) made))
 
-  full : length ps ≤ n
-      → fill (get_or html i 0 ∷ drop (i + 1) html) (map piece_text (drop n ps))
+  full : length ps ≤ n → fill (get_or html i 0 ∷ drop (i + 1) html) (map piece_text (drop n ps))
       ≡ get_or html i 0 ∷ rest (drop (i + 1) html) n
   full none =
-      rw (drop_of_length-le ps none)
-      (as_it_is (get_or html i 0 ∷ drop (i + 1) html)
+      rw (drop_of_length-le ps none) (as_it_is (get_or html i 0 ∷ drop (i + 1) html)
       ∙ ap (λ l. get_or html i 0 ∷ l) (sym (as_it_is (drop (i + 1) html))))
 
 pub loop-byte-preserved : goal.loop-byte-preserved
@@ -98,6 +92,5 @@ returns c =
     let last : length html ≤ c.loop-byte.byte-index = omega arith in
     let left = map piece_text (drop c.loop-byte.next c.args.pieces.now) in
     sym (append-nil c.loop-byte.out.items)
-    ∙ ap (λ l. c.loop-byte.out.items ++ l)
-    (sym (rw (drop_of_length-le html last) (nothing left)))
+    ∙ ap (λ l. c.loop-byte.out.items ++ l) (sym (rw (drop_of_length-le html last) (nothing left)))
     ∙ c.loop-byte.invariant

@@ -1,6 +1,5 @@
 use Rattle.std.proofs.Common.{ap, sym, ◌∙◌}
-use Rattle.multiplex.specs.Noting.{awaited_of}
-use Rattle.multiplex.proofs.Noted.{next_none, next_some}
+use Rattle.multiplex.{specs.Noting.awaited_of, proofs.Noted.next_none, proofs.Noted.next_some}
 use Rattle.multiplex.proofs.notes.awaited_next.Goals as goal
 
 pub returns-in-Some : goal.returns-in-Some

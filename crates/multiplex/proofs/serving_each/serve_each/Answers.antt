@@ -1,6 +1,5 @@
 use Rattle.std.proofs.Common.{refl, ap, inr, ◌++◌}
-use Rattle.multiplex.specs.declared.dear.DearTurns.{DearTurns}
-use Rattle.multiplex.proofs.Shutting.{lobby_same}
+use Rattle.multiplex.{specs.declared.dear.DearTurns.DearTurns, proofs.Shutting.lobby_same}
 use Rattle.polled.proofs.Telling.{Tells-trans}
 use Rattle.multiplex.proofs.Stepping.{serves_all, serves_none}
 use Rattle.multiplex.proofs.serving_each.serve_each.Goals as goal
@@ -16,11 +15,10 @@ returns-clause-served g c =
     let over = c.serve_rounds-over.result in
     serves_all g.D.Desk g.L.Peers g.C.Sockets.happened c.args.terms c.args.period over c.in-Ok.table
     c.serve_rounds-over.new.table c.let_all_go.new.table c.args.node.now
-    c.serve_rounds-over.new.node c.args.links.now c.serve_rounds-over.new.links
-    c.args.clients.now c.serve_rounds-over.new.clients c.let_all_go.new.clients
-    (lobby_same table.0 table.1 table.2 c.in-Ok.ensures.own
-    (ap (λ (d : DearTurns). d.spent) c.in-Ok.ensures.dear) c.in-Ok.ensures.differs refl)
-    c.serve_rounds-over.ensures.does
+    c.serve_rounds-over.new.node c.args.links.now c.serve_rounds-over.new.links c.args.clients.now
+    c.serve_rounds-over.new.clients c.let_all_go.new.clients (lobby_same table.0 table.1 table.2
+    c.in-Ok.ensures.own (ap (λ (d : DearTurns). d.spent) c.in-Ok.ensures.dear)
+    c.in-Ok.ensures.differs refl) c.serve_rounds-over.ensures.does
     (c.let_all_go.ensures.told (g.D.Desk.home_of c.args.node.now) c.args.terms over)
     c.let_all_go.ensures.empty
 

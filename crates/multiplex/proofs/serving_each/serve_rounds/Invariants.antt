@@ -1,8 +1,5 @@
 use Rattle.std.proofs.Common.{◌≡◌, ◌≤◌, length, None}
-use Rattle.multiplex.specs.Musts.{stand}
-use Rattle.multiplex.specs.Scenes.{scene}
-use Rattle.multiplex.specs.model.Scenes.{Does}
-use Rattle.multiplex.specs.model.Tables.{AreKept}
+use Rattle.multiplex.specs.{Musts.stand, Scenes.scene, model.Scenes.Does, model.Tables.AreKept}
 use Rattle.multiplex.proofs.Asked.{AsksSteps}
 use Rattle.multiplex.proofs.serving_each.serve_rounds.Given as goal
 

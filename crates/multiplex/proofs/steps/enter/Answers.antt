@@ -1,11 +1,10 @@
 use Rattle.std.proofs.Common.{◌≡◌, refl, List, [], ◌∷◌, length}
-use Rattle.multiplex.specs.declared.ends.EndReason.TheVariants as why
-use Rattle.multiplex.specs.Musts.{Accepts, MakesPlace}
+use Rattle.multiplex.specs.{Musts.Accepts, Musts.MakesPlace, model.Asking.MayClose}
 use Rattle.polled.specs.Requests.{Accepting, Request}
-use Rattle.polled.specs.declared.answers.AcceptedPeer.TheVariants as accepted_is
-use Rattle.multiplex.specs.model.Asking.{MayClose}
 use Rattle.multiplex.proofs.Asked.{accepts_came, accepts_full, asks_both}
 use Rattle.multiplex.proofs.Shutting.{enters, no_socket, welcome_keeps}
+use Rattle.multiplex.specs.declared.ends.EndReason.TheVariants as why
+use Rattle.polled.specs.declared.answers.AcceptedPeer.TheVariants as accepted_is
 use Rattle.multiplex.proofs.steps.enter.Goals as goal
 
 pub returns-in-Came-clause-alters : goal.returns-in-Came-clause-alters

@@ -4,9 +4,8 @@ use Rattle.multiplex.proofs.steps.is_awake.Goals as goal
 
 pub returns-in_default : goal.returns-in_default
 returns-in_default g c =
-    ap
-    (λ z. awakes_at (g.D.Desk.home_of c.args.node.now) (g.D.Desk.seen c.args.node.now) c.args.time
-    c.args.guest.now.talk z) (sym c.in_default.is)
+    ap (λ z. awakes_at (g.D.Desk.home_of c.args.node.now) (g.D.Desk.seen c.args.node.now)
+    c.args.time c.args.guest.now.talk z) (sym c.in_default.is)
 
 pub returns-in-Some-awaited_next : goal.returns-in-Some-awaited_next
 returns-in-Some-awaited_next g c =

@@ -40,8 +40,7 @@ loop-guest-preserved g c =
 pub returns-clause-told : goal.returns-clause-told
 returns-clause-told g c home t over =
     let table = c.loop-guest.table in
-    empties_same g.C.Sockets.happened home t over c.args.table.now table
-    (record {
+    empties_same g.C.Sockets.happened home t over c.args.table.now table (record {
       guests = c.pop.new.self;
       next = table.next;
       time = table.time;
@@ -49,16 +48,13 @@ returns-clause-told g c home t over =
       dear = table.dear;
       differs = table.differs;
       said = table.said;
-    })
-    c.args.clients.now c.loop-guest.clients
-    c.in_default.ensures.items refl refl refl refl refl
+    }) c.args.clients.now c.loop-guest.clients c.in_default.ensures.items refl refl refl refl refl
     (c.loop-guest.invariant.told home t over)
 
 pub returns-clause-asks : goal.returns-clause-asks
 returns-clause-asks g c =
     ends_all g.C.Sockets.requests c.args.clients.now c.loop-guest.clients
-    c.args.table.now.guests.items c.loop-guest.table.guests.items
-    (none_left c.loop-guest.table.guests.items
-    (λ some.
-    c.in_default.ensures.variant.1 (omega (arith, some, c.loop-guest.table.guests.ok.0))))
+    c.args.table.now.guests.items c.loop-guest.table.guests.items (none_left
+    c.loop-guest.table.guests.items
+    (λ some. c.in_default.ensures.variant.1 (omega (arith, some, c.loop-guest.table.guests.ok.0))))
     c.loop-guest.invariant.asks

@@ -1,9 +1,7 @@
 use Rattle.polled.specs.Requests.{Asks}
-use Rattle.multiplex.specs.declared.ends.ServingEnd.{ServingEnd}
-use Rattle.multiplex.specs.declared.table.ServingOptions.{ServingOptions}
-use Rattle.multiplex.specs.model.Scenes.{Empties}
+use Rattle.multiplex.specs.{declared.ends.ServingEnd.ServingEnd, model.Scenes.Empties}
+use Rattle.multiplex.{specs.declared.table.ServingOptions.ServingOptions, proofs.Asked.EndsSome}
 use Rattle.store.specs.declared.home.Home.{Home}
-use Rattle.multiplex.proofs.Asked.{EndsSome}
 use Rattle.multiplex.proofs.steps.let_all_go.Given as goal
 
 -- those so far were ended

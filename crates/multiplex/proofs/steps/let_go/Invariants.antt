@@ -1,9 +1,7 @@
 use Rattle.std.proofs.Common.{◌≡◌, ◌≤◌, length, None}
-use Rattle.multiplex.specs.declared.table.ServingOptions.{ServingOptions}
+use Rattle.multiplex.specs.{declared.table.ServingOptions.ServingOptions, model.Asking.KeepsWoken}
 use Rattle.polled.specs.Requests.{Asks}
-use Rattle.multiplex.specs.model.Asking.{AsksSome, KeepsWoken}
-use Rattle.multiplex.specs.model.Scenes.{AltersSome}
-use Rattle.multiplex.specs.model.Tables.{KeepsAll}
+use Rattle.multiplex.specs.model.{Asking.AsksSome, Scenes.AltersSome, Tables.KeepsAll}
 use Rattle.store.specs.declared.home.Home.{Home}
 use Rattle.multiplex.proofs.steps.let_go.Given as goal
 

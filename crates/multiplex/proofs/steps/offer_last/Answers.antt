@@ -1,6 +1,5 @@
 use Rattle.std.proofs.Common.{inl, inr, refl}
-use Rattle.multiplex.specs.Musts.{OffersLast}
-use Rattle.multiplex.specs.model.Asking.{Offers}
+use Rattle.multiplex.specs.{Musts.OffersLast, model.Asking.Offers}
 use Rattle.multiplex.proofs.Asked.{asks_as, offers_none}
 use Rattle.polled.proofs.Telling.{Tells-nil}
 use Rattle.multiplex.proofs.steps.offer_last.Goals as goal

@@ -1,24 +1,21 @@
 use Rattle.std.proofs.Common.{◌≡◌, refl, sym, ap, ◌∙◌, None, Some, true, inr}
-use Rattle.multiplex.specs.Musts.{Attends}
-use Rattle.multiplex.specs.declared.ends.EndReason.TheVariants as why
-use Rattle.multiplex.specs.Passing.{Lobby}
-use Rattle.multiplex.specs.Scenes.{scene}
+use Rattle.multiplex.specs.{Musts.Attends, Passing.Lobby, Scenes.scene, model.Ticks.desks}
 use Rattle.multiplex.specs.model.Asking.{AsksHosted, ClosesAt}
-use Rattle.multiplex.proofs.Visits.{answers_leave, answers_nobody, answers_stay, leave_keeps}
-use Rattle.multiplex.proofs.Visits.{leaving, met, over_down, over_kept, over_on, stay_keeps}
-use Rattle.multiplex.proofs.Visits.{visited}
-use Rattle.multiplex.proofs.Asked.{asks_as, asks_both, asks_none, attends_leave}
-use Rattle.multiplex.proofs.Asked.{attends_nobody, attends_stay}
+use Rattle.multiplex.proofs.Visits.{answers_leave, answers_nobody, answers_stay, leave_keeps, met}
+use Rattle.multiplex.proofs.Visits.{leaving, over_down, over_kept, over_on, stay_keeps, visited}
+use Rattle.multiplex.proofs.Asked.{asks_as, asks_both, asks_none, attends_leave, attends_nobody}
+use Rattle.multiplex.proofs.Asked.{attends_stay}
+use Rattle.multiplex.specs.declared.ends.EndReason.TheVariants as why
 use Rattle.multiplex.proofs.steps.visit.Goals as goal
 
 pub returns-in_default-clause-answers : goal.returns-in_default-clause-answers
 returns-in_default-clause-answers g c = (
-  c.args.node.now,
+  desks c.args.node.now c.args.links.now,
   true,
   None,
-  answers_nobody g.D.Desk g.P.Peers g.C.Sockets.happened (g.D.Desk.home_of c.args.node.now)
+  answers_nobody g.D.Desk g.L.Peers g.C.Sockets.happened (g.D.Desk.home_of c.args.node.now)
       c.args.terms c.args.number c.args.table.now
-      (scene c.args.node.now c.args.peers.now c.args.clients.now)
+      (scene c.args.node.now c.args.links.now c.args.clients.now)
       (sym c.place_of.ensures ∙ c.in_default.is),
   refl,
   inr (refl, refl),
@@ -31,19 +28,17 @@ returns-in-None-clause-answers g c =
     let place = c.in-Some.place in
     let old = c.index_mut-guest.result.now in
     let new = c.host.new.guest in
-    let at =
-    met home c.args.terms.wire c.args.number table place old new
+    let at = met home c.args.terms.wire c.args.number table place old new
     (sym c.place_of.ensures ∙ c.in-Some.is) c.index_mut-guest.ensures.value c.requires.kept in
     let h = c.in-None.ensures.hosts in (
       h.0,
       h.1,
       None,
-      answers_stay g.D.Desk g.P.Peers g.C.Sockets.happened home c.args.terms c.args.number place
+      answers_stay g.D.Desk g.L.Peers g.C.Sockets.happened home c.args.terms c.args.number place
           table (visited table place new c.host.new.dear c.host.new.differs) old new at.before
-          at.after
-          (scene c.args.node.now c.args.peers.now c.args.clients.now)
-          (scene h.0 c.host.new.peers c.host.new.clients) at.split at.number at.same refl
-          refl refl refl h.2,
+          at.after (scene c.args.node.now c.args.links.now c.args.clients.now)
+          (scene h.0.node h.0.peers c.host.new.clients) at.split at.number at.same refl refl refl
+          refl h.2,
       over_on h.1 h.3,
       h.4,
     )
@@ -55,14 +50,13 @@ returns-in-None-clause-kept g c =
     let place = c.in-Some.place in
     let old = c.index_mut-guest.result.now in
     let new = c.host.new.guest in
-    let at =
-    met home c.args.terms.wire c.args.number table place old new
+    let at = met home c.args.terms.wire c.args.number table place old new
     (sym c.place_of.ensures ∙ c.in-Some.is) c.index_mut-guest.ensures.value c.requires.kept in
     let h = c.in-None.ensures.hosts in
-    stay_keeps g.D.Desk g.P.Peers g.C.Sockets.happened home c.args.terms.wire place table
+    stay_keeps g.D.Desk g.L.Peers g.C.Sockets.happened home c.args.terms.wire place table
     (visited table place new c.host.new.dear c.host.new.differs) old new at.before at.after
-    (scene c.args.node.now c.args.peers.now c.args.clients.now)
-    (scene h.0 c.host.new.peers c.host.new.clients) at.split refl
+    (scene c.args.node.now c.args.links.now c.args.clients.now)
+    (scene h.0.node h.0.peers c.host.new.clients) at.split refl
     h.2 c.host.ensures.noted c.requires.kept
 
 pub returns-else-is_over-clause-answers : goal.returns-else-is_over-clause-answers
@@ -72,18 +66,17 @@ returns-else-is_over-clause-answers g c =
     let place = c.in-Some.place in
     let old = c.index_mut-guest.result.now in
     let new = c.host.new.guest in
-    let at =
-    met home c.args.terms.wire c.args.number table place old new
+    let at = met home c.args.terms.wire c.args.number table place old new
     (sym c.place_of.ensures ∙ c.in-Some.is) c.index_mut-guest.ensures.value c.requires.kept in
     let h = c.in-Some-host.ensures.hosts in (
       h.0,
       h.1,
       c.shut-over.result,
-      answers_leave g.D.Desk g.P.Peers g.C.Sockets.happened home c.args.terms c.args.number
+      answers_leave g.D.Desk g.L.Peers g.C.Sockets.happened home c.args.terms c.args.number
           c.in-Some-host.why place c.shut-over.result table
           (visited table place new c.host.new.dear c.host.new.differs) c.shut-over.new.table old new
-          at.before at.after (scene c.args.node.now c.args.peers.now c.args.clients.now) h.0
-          c.host.new.peers c.host.new.clients c.shut-over.new.clients at.split at.number at.same refl
+          at.before at.after (scene c.args.node.now c.args.links.now c.args.clients.now) h.0.node
+          h.0.peers c.host.new.clients c.shut-over.new.clients at.split at.number at.same refl
           refl refl refl h.2 c.shut-over.ensures.shut,
       over_kept h.1 c.in-Some-host.why c.shut-over.result h.3
           (λ e. absurd (let yes = c.is_over.ensures.1 e in let no = c.if-is_over.false in cc)),
@@ -97,18 +90,17 @@ returns-then-is_over-clause-answers g c =
     let place = c.in-Some.place in
     let old = c.index_mut-guest.result.now in
     let new = c.host.new.guest in
-    let at =
-    met home c.args.terms.wire c.args.number table place old new
+    let at = met home c.args.terms.wire c.args.number table place old new
     (sym c.place_of.ensures ∙ c.in-Some.is) c.index_mut-guest.ensures.value c.requires.kept in
     let h = c.in-Some-host.ensures.hosts in (
       h.0,
       h.1,
       c.shut-over.result,
-      answers_leave g.D.Desk g.P.Peers g.C.Sockets.happened home c.args.terms c.args.number
+      answers_leave g.D.Desk g.L.Peers g.C.Sockets.happened home c.args.terms c.args.number
           c.in-Some-host.why place c.shut-over.result table
           (visited table place new c.host.new.dear c.host.new.differs) c.shut-over.new.table old new
-          at.before at.after (scene c.args.node.now c.args.peers.now c.args.clients.now) h.0
-          c.host.new.peers c.host.new.clients c.shut-over.new.clients at.split at.number at.same refl
+          at.before at.after (scene c.args.node.now c.args.links.now c.args.clients.now) h.0.node
+          h.0.peers c.host.new.clients c.shut-over.new.clients at.split at.number at.same refl
           refl refl refl h.2 c.shut-over.ensures.shut,
       over_down h.1 c.in-Some-host.why c.shut-over.result h.3
           (c.is_over.ensures.0 c.if-is_over.true),
@@ -122,13 +114,12 @@ returns-else-is_over-clause-kept g c =
     let place = c.in-Some.place in
     let old = c.index_mut-guest.result.now in
     let new = c.host.new.guest in
-    let at =
-    met home c.args.terms.wire c.args.number table place old new
+    let at = met home c.args.terms.wire c.args.number table place old new
     (sym c.place_of.ensures ∙ c.in-Some.is) c.index_mut-guest.ensures.value c.requires.kept in
     leave_keeps g.C.Sockets.happened home c.args.terms.wire place c.shut-over.result table
-    (visited table place new c.host.new.dear c.host.new.differs) c.shut-over.new.table old new at.before
-    at.after c.host.new.clients c.shut-over.new.clients at.split refl refl refl refl c.shut-over.ensures.shut
-    c.host.ensures.noted.1 c.requires.kept
+    (visited table place new c.host.new.dear c.host.new.differs) c.shut-over.new.table old new
+    at.before at.after c.host.new.clients c.shut-over.new.clients at.split refl refl refl refl
+    c.shut-over.ensures.shut c.host.ensures.noted.1 c.requires.kept
 
 pub returns-then-is_over-clause-kept : goal.returns-then-is_over-clause-kept
 returns-then-is_over-clause-kept g c =
@@ -137,13 +128,12 @@ returns-then-is_over-clause-kept g c =
     let place = c.in-Some.place in
     let old = c.index_mut-guest.result.now in
     let new = c.host.new.guest in
-    let at =
-    met home c.args.terms.wire c.args.number table place old new
+    let at = met home c.args.terms.wire c.args.number table place old new
     (sym c.place_of.ensures ∙ c.in-Some.is) c.index_mut-guest.ensures.value c.requires.kept in
     leave_keeps g.C.Sockets.happened home c.args.terms.wire place c.shut-over.result table
-    (visited table place new c.host.new.dear c.host.new.differs) c.shut-over.new.table old new at.before
-    at.after c.host.new.clients c.shut-over.new.clients at.split refl refl refl refl c.shut-over.ensures.shut
-    c.host.ensures.noted.1 c.requires.kept
+    (visited table place new c.host.new.dear c.host.new.differs) c.shut-over.new.table old new
+    at.before at.after c.host.new.clients c.shut-over.new.clients at.split refl refl refl refl
+    c.shut-over.ensures.shut c.host.ensures.noted.1 c.requires.kept
 
 pub returns-in_default-clause-asks : goal.returns-in_default-clause-asks
 returns-in_default-clause-asks g c =
@@ -158,17 +148,13 @@ returns-in-None-clause-asks g c =
     let place = c.in-Some.place in
     let old = c.index_mut-guest.result.now in
     let new = c.host.new.guest in
-    let at =
-    met home c.args.terms.wire c.args.number table place old new
+    let at = met home c.args.terms.wire c.args.number table place old new
     (sym c.place_of.ensures ∙ c.in-Some.is) c.index_mut-guest.ensures.value c.requires.kept in
     let items = (visited table place new c.host.new.dear c.host.new.differs).guests.items in
     asks_as g.C.Sockets.requests c.args.clients.now c.host.new.clients
-    (AsksHosted old.number old new None)
-    (Attends c.args.number table.guests.items items)
-    (λ xs h.
-    attends_stay c.args.number place table items old new at.before at.after xs at.split at.number
-    refl h)
-    c.in-None.ensures.asks
+    (AsksHosted old.number old new None) (Attends c.args.number table.guests.items items)
+    (λ xs h. attends_stay c.args.number place table items old new at.before at.after xs at.split
+    at.number refl h) c.in-None.ensures.asks
 
 pub returns-else-is_over-clause-asks : goal.returns-else-is_over-clause-asks
 returns-else-is_over-clause-asks g c =
@@ -177,24 +163,20 @@ returns-else-is_over-clause-asks g c =
     let place = c.in-Some.place in
     let old = c.index_mut-guest.result.now in
     let new = c.host.new.guest in
-    let at =
-    met home c.args.terms.wire c.args.number table place old new
+    let at = met home c.args.terms.wire c.args.number table place old new
     (sym c.place_of.ensures ∙ c.in-Some.is) c.index_mut-guest.ensures.value c.requires.kept in
     let w = c.in-Some-host.why in
     let mid = visited table place new c.host.new.dear c.host.new.differs in
-    let left =
-    leaving g.C.Sockets.happened place c.shut-over.result table mid c.shut-over.new.table old new at.before
-    at.after c.host.new.clients c.shut-over.new.clients at.split refl refl refl refl
-    c.shut-over.ensures.shut in
+    let left = leaving g.C.Sockets.happened place c.shut-over.result table mid c.shut-over.new.table
+    old new at.before at.after c.host.new.clients c.shut-over.new.clients at.split refl refl refl
+    refl c.shut-over.ensures.shut in
     asks_both g.C.Sockets.requests c.args.clients.now c.host.new.clients c.shut-over.new.clients
-    (AsksHosted old.number old new (Some w))
-    (ClosesAt place mid.guests.items)
+    (AsksHosted old.number old new (Some w)) (ClosesAt place mid.guests.items)
     (Attends c.args.number table.guests.items c.shut-over.new.table.guests.items)
-    (λ xs ys h k.
-    attends_leave c.args.number place w table mid c.shut-over.new.table.guests.items old new at.before
-    at.after xs ys at.split at.number c.in-Some-host.ensures.hosts.2.0.number refl
-    (ap (λ (l : Lobby). l.guests) left.left) h k)
-    c.in-Some-host.ensures.asks c.shut-over.ensures.asks
+    (λ xs ys h k. attends_leave c.args.number place w table mid c.shut-over.new.table.guests.items
+    old new at.before at.after xs ys at.split at.number c.in-Some-host.ensures.hosts.2.0.number refl
+    (ap (λ (l : Lobby). l.guests) left.left) h k) c.in-Some-host.ensures.asks
+    c.shut-over.ensures.asks
 
 pub returns-then-is_over-clause-asks : goal.returns-then-is_over-clause-asks
 returns-then-is_over-clause-asks g c =
@@ -203,31 +185,25 @@ returns-then-is_over-clause-asks g c =
     let place = c.in-Some.place in
     let old = c.index_mut-guest.result.now in
     let new = c.host.new.guest in
-    let at =
-    met home c.args.terms.wire c.args.number table place old new
+    let at = met home c.args.terms.wire c.args.number table place old new
     (sym c.place_of.ensures ∙ c.in-Some.is) c.index_mut-guest.ensures.value c.requires.kept in
     let w = c.in-Some-host.why in
     let mid = visited table place new c.host.new.dear c.host.new.differs in
-    let left =
-    leaving g.C.Sockets.happened place c.shut-over.result table mid c.shut-over.new.table old new at.before
-    at.after c.host.new.clients c.shut-over.new.clients at.split refl refl refl refl
-    c.shut-over.ensures.shut in
+    let left = leaving g.C.Sockets.happened place c.shut-over.result table mid c.shut-over.new.table
+    old new at.before at.after c.host.new.clients c.shut-over.new.clients at.split refl refl refl
+    refl c.shut-over.ensures.shut in
     asks_both g.C.Sockets.requests c.args.clients.now c.host.new.clients c.shut-over.new.clients
-    (AsksHosted old.number old new (Some w))
-    (ClosesAt place mid.guests.items)
+    (AsksHosted old.number old new (Some w)) (ClosesAt place mid.guests.items)
     (Attends c.args.number table.guests.items c.shut-over.new.table.guests.items)
-    (λ xs ys h k.
-    attends_leave c.args.number place w table mid c.shut-over.new.table.guests.items old new at.before
-    at.after xs ys at.split at.number c.in-Some-host.ensures.hosts.2.0.number refl
-    (ap (λ (l : Lobby). l.guests) left.left) h k)
-    c.in-Some-host.ensures.asks c.shut-over.ensures.asks
+    (λ xs ys h k. attends_leave c.args.number place w table mid c.shut-over.new.table.guests.items
+    old new at.before at.after xs ys at.split at.number c.in-Some-host.ensures.hosts.2.0.number refl
+    (ap (λ (l : Lobby). l.guests) left.left) h k) c.in-Some-host.ensures.asks
+    c.shut-over.ensures.asks
 
 pub returns-in-None-clause-settled : goal.returns-in-None-clause-settled
 returns-in-None-clause-settled g c none so = c.in-None.ensures.settled (λ n. absurd cc) so
 
 pub returns-else-is_over-clause-settled : goal.returns-else-is_over-clause-settled
 returns-else-is_over-clause-settled g c none so =
-    c.in-Some-host.ensures.settled
-    (λ e. absurd
-    (let down : c.in-Some-host.why ≡ why.Over = cc in
+    c.in-Some-host.ensures.settled (λ e. absurd (let down : c.in-Some-host.why ≡ why.Over = cc in
     let yes = c.is_over.ensures.1 down in let no = c.if-is_over.false in cc)) so

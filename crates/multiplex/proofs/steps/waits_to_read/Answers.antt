@@ -1,9 +1,7 @@
-use Rattle.std.proofs.Common.{◌≡◌, ◌≢◌, ◌↔◌, ◌∙◌, refl, sym, inl, inr, Option, None, Some, ℕ, Bool}
-use Rattle.std.proofs.Common.{true, false}
-use Rattle.std.specs.Prelude.{is_some, IsTrue}
-use Rattle.multiplex.specs.Musts.{WaitsToRead}
+use Rattle.std.proofs.Common.{◌≡◌, ◌≢◌, ◌↔◌, ◌∙◌, refl, inl, inr, Option, None, ℕ, true, false}
+use Rattle.std.{proofs.Common.Some, proofs.Common.Bool, specs.Prelude.is_some, specs.Prelude.IsTrue}
+use Rattle.multiplex.specs.{Musts.WaitsToRead, declared.table.Guest.Guest}
 use Rattle.guarded.specs.LockedConnections.{WantsRead}
-use Rattle.multiplex.specs.declared.table.Guest.{Guest}
 use Rattle.multiplex.proofs.Looking.{some_of}
 use Rattle.multiplex.proofs.steps.waits_to_read.Goals as goal
 

@@ -1,8 +1,7 @@
 use Rattle.std.proofs.Common.{None, take}
 use Rattle.polled.specs.Requests.{Asks}
 use Rattle.multiplex.specs.declared.table.ServingOptions.{ServingOptions}
-use Rattle.multiplex.specs.model.Asking.{WakesAll}
-use Rattle.multiplex.specs.model.Scenes.{AltersSome}
+use Rattle.multiplex.specs.model.{Asking.WakesAll, Scenes.AltersSome}
 use Rattle.store.specs.declared.home.Home.{Home}
 use Rattle.multiplex.proofs.steps.wake.Given as goal
 

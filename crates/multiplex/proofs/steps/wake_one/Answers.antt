@@ -1,8 +1,6 @@
 use Rattle.std.proofs.Common.{refl, ◌∷◌, [], true}
-use Rattle.polled.specs.Requests.{Watching}
-use Rattle.polled.proofs.Telling.{Tells-nil}
-use Rattle.multiplex.proofs.Asked.{asleep}
-use Rattle.multiplex.proofs.Shutting.{alters_none, may_watch}
+use Rattle.polled.{specs.Requests.Watching, proofs.Telling.Tells-nil}
+use Rattle.multiplex.proofs.{Asked.asleep, Shutting.alters_none, Shutting.may_watch}
 use Rattle.multiplex.proofs.steps.wake_one.Goals as goal
 
 pub returns-then-not-is_awake-clause-told : goal.returns-then-not-is_awake-clause-told

@@ -1,17 +1,15 @@
-use Rattle.std.proofs.Common.{Bor, List, ℕ, Some, sym, subst}
-use Rattle.outbox.specs.Lines.{IsFirstLine}
-use Rattle.outbox.proofs.FirstLines.{no_line, some_line}
+use Rattle.std.proofs.Common.{Bor, List, ℕ, None, Some, sym, subst}
+use Rattle.outbox.{specs.Lines.IsFirstLine, proofs.FirstLines.by_cut}
 use Rattle.outbox.proofs.journal.first_line.Goals as goal
 
 pub returns-in_default-Some : goal.returns-in_default-Some
 returns-in_default-Some c =
-    subst
-    (λ (l : Bor (List ℕ)). IsFirstLine c.args.bytes.now (Some (c.cut.result.0.now, l.now)))
+    subst (λ (l : Bor (List ℕ)). IsFirstLine c.args.bytes.now (Some (c.cut.result.0.now, l.now)))
     (sym c.in_default-Some.left-is)
-    (some_line c.args.bytes.now c.cut.result.0.now c.cut.result.1 c.in_default-Some.left
+    (by_cut c.args.bytes.now c.cut.result.0.now c.cut.result.1 (Some c.in_default-Some.left)
     c.cut.ensures c.in_default-Some.is-1)
 
 pub returns-in_default-None : goal.returns-in_default-None
 returns-in_default-None c =
-    no_line c.args.bytes.now c.cut.result.0.now c.cut.result.1 c.cut.ensures
+    by_cut c.args.bytes.now c.cut.result.0.now c.cut.result.1 None c.cut.ensures
     c.in_default-None.is-1

@@ -1,7 +1,5 @@
 use Rattle.std.proofs.Common.{◌≡◌, ◌+◌, ◌≤◌, length}
-use Rattle.outbox.specs.Items.{no_items}
-use Rattle.outbox.specs.Journals.{after_lines}
-use Rattle.outbox.specs.Lines.{cut_line, whole_lines}
+use Rattle.outbox.specs.{Items.no_items, Journals.after_lines, Lines.cut_line, Lines.whole_lines}
 use Rattle.outbox.proofs.journal.read_items.Given as goal
 
 abbrev pub invariant-loop-line : goal.invariant-loop-line

@@ -1,6 +1,5 @@
 use Rattle.std.proofs.Common.{◌++◌, List, true, ap, ◌∙◌}
-use Rattle.http_server.specs.Exchange.{Call}
-use Rattle.http_server.proofs.StreamLemmas.{Calls-then}
+use Rattle.http_server.{specs.Exchange.Call, proofs.StreamLemmas.Calls-then}
 use Rattle.pages.proofs.Moving.{Moved-same}
 use Rattle.pages.proofs.turns.answer.Goals as goal
 

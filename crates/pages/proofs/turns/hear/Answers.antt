@@ -1,7 +1,6 @@
 use Rattle.std.proofs.Common.{false, subst, sym}
 use Rattle.http_server.specs.Connection.{history}
-use Rattle.pages.specs.Turns.{Hears}
-use Rattle.pages.proofs.Hearing.{Heard-more, Hears-part}
+use Rattle.pages.{specs.Turns.Hears, proofs.Hearing.Heard-more, proofs.Hearing.Hears-part}
 use Rattle.pages.proofs.turns.hear.Goals as goal
 
 pub returns-in_default-clause-hears : goal.returns-in_default-clause-hears

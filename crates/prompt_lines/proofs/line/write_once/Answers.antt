@@ -1,5 +1,4 @@
-use Rattle.std.proofs.Common.{take, drop, sym}
-use Rattle.std.proofs.lemmas.List.{take-append-drop}
+use Rattle.std.proofs.{Common.take, Common.drop, Common.sym, lemmas.List.take-append-drop}
 use Rattle.prompt_lines.proofs.line.write_once.Goals as goal
 
 pub returns-in-Ok-clause-part : goal.returns-in-Ok-clause-part

@@ -12,5 +12,4 @@ returns c =
     let replay = c.in_ok-replay_command.ensures in
     let named = ap app_of_fields c.in_ok-command.ensures.0 ∙ c.desk_command.ensures in
     IfOk-weaker c.with_subcommand.result _ _
-    (λ command made. (replay.0, subbed _ _ _ _ _ named replay.1.0 made))
-    c.with_subcommand.ensures
+    (λ command made. (replay.0, subbed _ _ _ _ _ named replay.1.0 made)) c.with_subcommand.ensures

@@ -19,7 +19,6 @@ returns c =
     IfOk-weaker c.with_argument-4.result _ _ (λ command made. (
       record { events = event.0; rounds = round.0; named = event.1; numbered = round.1 },
       made,
-    ))
-    (added_last c.with_argument-4.result c.in_ok-command-3.command _ c.flag-only_sheet.result _
+    )) (added_last c.with_argument-4.result c.in_ok-command-3.command _ c.flag-only_sheet.result _
     three c.flag-only_sheet.ensures.rule c.with_argument-4.ensures.app
     c.with_argument-4.ensures.local)

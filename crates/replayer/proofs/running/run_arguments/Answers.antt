@@ -1,5 +1,5 @@
-use Rattle.std.proofs.Common.{[], inl, inr, subst, Option, List}
-use Rattle.std.proofs.KnownBytes.{Appends-nil, Keeps-refl}
+use Rattle.std.proofs.Common.{inl, inr, subst, Option, List}
+use Rattle.std.proofs.KnownBytes.{Keeps-refl}
 use Rattle.clap.specs.Words.{Row, Text}
 use Rattle.replay_arguments.specs.Asking.{Finds}
 use Rattle.replayer.proofs.running.run_arguments.Goals as goal

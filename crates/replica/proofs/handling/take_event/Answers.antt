@@ -51,8 +51,7 @@ pub returns-in-Deliver-clause-takes : goal.returns-in-Deliver-clause-takes
 returns-in-Deliver-clause-takes g c =
     let x = c.args.desk.now in
     let s = c.plan_message-planned.ensures in
-    rw c.in-Deliver.is
-    (takes_as x c.plan_message-planned.new.desk c.plan_message-planned.result
+    rw c.in-Deliver.is (takes_as x c.plan_message-planned.new.desk c.plan_message-planned.result
     (step x.desks x.number x.desk (Deliver c.in-Deliver.message)) _ _ s.same
     (record { plan = s.plan; refused = s.refused }) c.carry_out-in-Deliver.ensures.takes)
 
@@ -60,8 +59,7 @@ pub returns-in-Deliver-clause-left : goal.returns-in-Deliver-clause-left
 returns-in-Deliver-clause-left g c down honest =
     let x = c.args.desk.now in
     let s = c.plan_message-planned.ensures in
-    rw c.in-Deliver.is
-    (left_as x c.plan_message-planned.new.desk c.plan_message-planned.result
+    rw c.in-Deliver.is (left_as x c.plan_message-planned.new.desk c.plan_message-planned.result
     (step x.desks x.number x.desk (Deliver c.in-Deliver.message)) _ _ s.same
     (record { plan = s.plan; refused = s.refused })
     (λ t p. c.carry_out-in-Deliver.ensures.left down t p honest))

@@ -1,20 +1,12 @@
 -- A model of the code: a desk as it runs, and when a plan fits it.
-use Rattle.std.specs.Prelude.{ℕ, ◌≡◌, ◌⊎◌, ◌<◌, if◌then◌else◌, [], length, Option, Some, None}
-use Rattle.std.specs.Prelude.{Result, Ok}
-use Rattle.acceptor.specs.declared.message.Message.{Message}
-use Rattle.acceptor.specs.declared.stored.Change.{Change}
-use Rattle.acceptor.specs.declared.stored.Change.TheVariants.{Promised, Voted, Tried, Appended}
-use Rattle.acceptor.specs.declared.stored.Stored.{Stored}
-use Rattle.proposer.specs.declared.fault.Refusal.{Refusal}
-use Rattle.proposer.specs.declared.plan.Plan.{Plan}
-use Rattle.proposer.specs.Plans.{only_say}
-use Rattle.proposer.specs.Proposing.{start, tick}
-use Rattle.proposer.specs.Sides.{Side}
-use Rattle.learner.specs.Desks.{Desk, adopt, passing}
-use Rattle.learner.specs.Logs.{LogValue}
-use Rattle.learner.specs.Ranges.{DeskIsInRange, AreInRange}
+use Rattle.std.specs.Prelude.{ℕ, ◌≡◌, ◌⊎◌, ◌<◌, if◌then◌else◌, [], length, Option, Some, Result, Ok}
+use Rattle.acceptor.specs.declared.{message.Message.Message, stored.Stored.Stored}
+use Rattle.acceptor.specs.declared.stored.Change.{Change, TheVariants.Appended}
+use Rattle.proposer.specs.declared.{fault.Refusal.Refusal, plan.Plan.Plan}
+use Rattle.proposer.specs.{Plans.only_say, Proposing.start, Proposing.tick, Sides.Side}
+use Rattle.learner.specs.{Desks.Desk, Logs.LogValue, declared.event.DeskEvent.DeskEvent}
+use Rattle.learner.specs.{Desks.adopt, Desks.passing, Ranges.DeskIsInRange, Ranges.AreInRange}
 use Rattle.learner.specs.Steps.{IsDesk, is_heeded, on_body, done, step}
-use Rattle.learner.specs.declared.event.DeskEvent.{DeskEvent}
 
 -- this desk of this many, all that it knows, and the room that its log has for the next entry
 pub record RunningDesk : Type 0 where
@@ -48,11 +40,8 @@ pub record IsRunning (x : RunningDesk) : Type 0 where
 
 -- where an entry is appended, the log has room for it
 abbrev pub HasRoom : ℕ → Option Change → Type 0
-HasRoom room None = Unit {0}
-HasRoom room (Some (Promised b)) = Unit {0}
-HasRoom room (Some (Voted v)) = Unit {0}
-HasRoom room (Some (Tried r)) = Unit {0}
 HasRoom room (Some (Appended e)) = 0 < room
+HasRoom room _ = Unit {0}
 
 -- the plan is that of a step
 abbrev pub IsStep : RunningDesk → Plan → Type 0

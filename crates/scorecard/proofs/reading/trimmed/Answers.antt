@@ -1,5 +1,4 @@
-use Rattle.std.proofs.Common.{refl}
-use Rattle.std.proofs.lemmas.Str.Ascii.{trim_ascii_is}
+use Rattle.std.proofs.{Common.refl, lemmas.Str.Ascii.trim_ascii_is}
 use Rattle.scorecard.specs.Spelling.{trimmed, without_front}
 use Rattle.scorecard.proofs.reading.trimmed.Goals as goal
 

@@ -1,13 +1,11 @@
-use Rattle.std.proofs.Common.{◌≡◌, ◌++◌, ◌∷◌, [], true, false, get_or, take, drop}
-use Rattle.std.proofs.Common.{bytes_eq, refl, sym, ap, ◌∙◌}
-use Rattle.std.proofs.Common.{arith}
-use Rattle.std.proofs.lemmas.List.{take_rest}
+use Rattle.std.proofs.Common.{◌≡◌, ◌++◌, ◌∷◌, [], true, false, get_or, take, sym, ap, ◌∙◌, arith}
+use Rattle.std.proofs.{Common.drop, Common.bytes_eq, Common.refl, lemmas.List.take_rest}
 use Rattle.scorecard.specs.Spelling.{mended_after, apostrophe}
 use Rattle.scorecard.proofs.Apostrophes.{after_skip, after_push, mended_quote, mended_plain}
-use Rattle.scorecard.proofs.solutions.mended.Goals as goal
 use Rattle.scorecard.proofs.solutions.mended.Goals.{then-skipped-gt0}
 use Rattle.scorecard.proofs.solutions.mended.Goals.{else-skipped-gt0+then-starts_with+in_ok-push}
 use Rattle.scorecard.proofs.solutions.mended.Goals.{else-skipped-gt0+else-starts_with+in_ok-push-2}
+use Rattle.scorecard.proofs.solutions.mended.Goals as goal
 
 pub loop-place-preserved : goal.loop-place-preserved
 loop-place-preserved c =
@@ -52,8 +50,7 @@ loop-place-preserved c =
             after_push c.loop-place.text.items c.if-skipped-gt0.text.items c.args.bytes.now
             (mended_after 0 c.args.bytes.now) (get_or c.args.bytes.now c.loop-place.place 0)
             c.loop-place.skipped c.if-skipped-gt0.skipped c.loop-place.place (omega arith) pushed
-            (rw none
-            (mended_plain c.loop-place.place c.args.bytes.now (omega arith) is))
+            (rw none (mended_plain c.loop-place.place c.args.bytes.now (omega arith) is))
             c.loop-place.invariant.done;
         few = omega arith;
       }

@@ -1,9 +1,7 @@
 use Rattle.std.proofs.Common.{◌≡◌, ◌+◌, ◌++◌, ℕ, List, take, sym, subst, arith}
-use Rattle.std.specs.Global.{Vec}
-use Rattle.std.proofs.lemmas.List.{take_all}
-use Rattle.seal.specs.Streams.{Reads, stream_of}
-use Rattle.seal.proofs.Feeding.{reads_fed, stream_next}
-use Rattle.seal.proofs.Reading.{reads_all, reads_only}
+use Rattle.std.{specs.Global.Vec, proofs.lemmas.List.take_all}
+use Rattle.seal.{specs.Streams.Reads, proofs.Feeding.reads_fed, proofs.Feeding.stream_next}
+use Rattle.seal.{specs.Streams.stream_of, proofs.Reading.reads_all, proofs.Reading.reads_only}
 use Rattle.seal.proofs.opener.open_pieces.Goals as goal
 
 pub loop-piece-preserved : goal.loop-piece-preserved

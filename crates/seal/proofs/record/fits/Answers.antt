@@ -1,9 +1,7 @@
 use Rattle.std.proofs.Common.{◌≡◌, ◌-◌, Bool, true, false, length, drop, slice_range, sym, ◌∙◌}
 use Rattle.std.proofs.Common.{arith}
-use Rattle.std.proofs.lemmas.Bool.{lt-ltb, ltb-true}
-use Rattle.std.proofs.lemmas.List.{take_rest}
-use Rattle.seal.specs.Records.{tag}
-use Rattle.seal.proofs.Placed.{record_made, tag_there}
+use Rattle.std.proofs.lemmas.{Bool.lt-ltb, Bool.ltb-true, List.take_rest}
+use Rattle.seal.{specs.Records.tag, proofs.Placed.record_made, proofs.Placed.tag_there}
 use Rattle.seal.proofs.record.fits.Goals as goal
 
 no_test : (b : Bool) → b ≡ true → b ≡ false → ⊥

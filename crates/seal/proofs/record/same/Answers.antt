@@ -1,7 +1,5 @@
 use Rattle.std.proofs.Common.{◌≡◌, ℕ, List, slice_index, refl, ap, arith}
-use Rattle.std.specs.Int.Bits.{xor_self}
-use Rattle.std.proofs.lemmas.Bool.{eqb-true}
-use Rattle.std.proofs.lemmas.List.{ext_get_or}
+use Rattle.std.{specs.Int.Bits.xor_self, proofs.lemmas.Bool.eqb-true, proofs.lemmas.List.ext_get_or}
 use borrow.Author.Count.{below_more}
 use Rattle.seal.proofs.Bits.{or_none, xor_none}
 use Rattle.seal.proofs.record.same.Goals as goal

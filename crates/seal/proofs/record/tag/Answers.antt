@@ -1,5 +1,4 @@
-use Rattle.std.proofs.Common.{refl, arith}
-use Rattle.std.proofs.lemmas.List.{append-nil}
+use Rattle.std.proofs.{Common.refl, Common.arith, lemmas.List.append-nil}
 use Rattle.seal.specs.Records.{tag}
 use Rattle.seal.proofs.record.tag.Goals as goal
 

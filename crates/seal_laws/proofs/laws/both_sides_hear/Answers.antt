@@ -1,5 +1,4 @@
-use Rattle.seal_laws.proofs.Connected.{connected, entry_connected}
-use Rattle.seal_laws.proofs.Hearing.{both_hear}
+use Rattle.seal_laws.proofs.{Connected.connected, Connected.entry_connected, Hearing.both_hear}
 use Rattle.seal_laws.proofs.laws.both_sides_hear.Goals as goal
 
 pub returns-clause-hear : goal.returns-clause-hear

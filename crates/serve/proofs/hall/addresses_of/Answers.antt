@@ -1,6 +1,5 @@
 use Rattle.std.proofs.Common.{map, take, ◌+◌, subst, sym}
-use Rattle.serve.specs.Addresses.{AreFoundFor}
-use Rattle.serve.proofs.Addresses.{found_step}
+use Rattle.serve.{specs.Addresses.AreFoundFor, proofs.Addresses.found_step}
 use Rattle.serve.proofs.hall.addresses_of.Goals as goal
 
 pub loop-text-preserved : goal.loop-text-preserved

@@ -1,5 +1,4 @@
-use Rattle.std.proofs.Common.{sym, subst}
-use Rattle.std.specs.Prelude.{IfOk}
+use Rattle.std.{proofs.Common.sym, proofs.Common.subst, specs.Prelude.IfOk}
 use Rattle.sqlite.specs.Recovery.{Image}
 use Rattle.store.specs.declared.home.Home.{Home}
 use Rattle.hall_file.specs.declared.service.StoreOrigin.{StoreOrigin}

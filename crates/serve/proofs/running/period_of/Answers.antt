@@ -1,6 +1,5 @@
 use Rattle.std.proofs.Common.{◌∙◌, ap, sym}
-use Rattle.serve.proofs.Periods.{period_is}
-use Rattle.serve.specs.Serves.{period_of}
+use Rattle.serve.{proofs.Periods.period_is, specs.Serves.period_of}
 use Rattle.serve.proofs.running.period_of.Goals as goal
 
 pub returns-in-Some : goal.returns-in-Some

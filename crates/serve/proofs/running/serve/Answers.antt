@@ -1,5 +1,4 @@
-use Rattle.std.proofs.KnownBytes.{Keeps-refl}
-use Rattle.std.proofs.Common.{inl}
+use Rattle.std.proofs.{KnownBytes.Keeps-refl, Common.inl}
 use Rattle.serve.proofs.Opened.{fails_on, runs_on}
 use Rattle.serve.proofs.Over.{by_keys, by_name, by_opening, hindered}
 use Rattle.serve.proofs.running.serve.Goals as goal
@@ -16,16 +15,11 @@ returns-in-Err-open_store-clause-err g c =
 
 pub returns-in-Err-clause-fails : goal.returns-in-Err-clause-fails
 returns-in-Err-clause-fails g c =
-    inl
-    (record {
-      cause = by_name _ c.args.service c.in-Err.ensures.err;
-      silent = Keeps-refl _;
-    })
+    inl (record { cause = by_name _ c.args.service c.in-Err.ensures.err; silent = Keeps-refl _ })
 
 pub returns-in-Err-open_store-clause-fails : goal.returns-in-Err-open_store-clause-fails
 returns-in-Err-open_store-clause-fails g c =
-    inl
-    (record {
+    inl (record {
       cause =
           by_opening _ c.args.service c.in-Err-open_store.ensures.err c.in-Ok.ensures.allowed;
       silent = Keeps-refl _;
@@ -34,13 +28,11 @@ returns-in-Err-open_store-clause-fails g c =
 pub returns-in-Err-doors_of-clause-err : goal.returns-in-Err-doors_of-clause-err
 returns-in-Err-doors_of-clause-err g c =
     hindered _ c.args.service _
-    (by_keys _ c.args.service c.in-Err-doors_of.ensures.err c.in-Ok.ensures.allowed)
-    (Keeps-refl _)
+    (by_keys _ c.args.service c.in-Err-doors_of.ensures.err c.in-Ok.ensures.allowed) (Keeps-refl _)
 
 pub returns-in-Err-doors_of-clause-fails : goal.returns-in-Err-doors_of-clause-fails
 returns-in-Err-doors_of-clause-fails g c =
-    inl
-    (record {
+    inl (record {
       cause = by_keys _ c.args.service c.in-Err-doors_of.ensures.err c.in-Ok.ensures.allowed;
       silent = Keeps-refl _;
     })

@@ -6,13 +6,11 @@ use Rattle.serve.proofs.running.serve_kept.Goals as goal
 
 pub returns-in-Err-clause-err : goal.returns-in-Err-clause-err
 returns-in-Err-clause-err g c = hindered _ c.args.service _
-    (by_store _ c.args.service c.fault_of_open.ensures.of_store c.requires.allowed)
-    (Keeps-refl _)
+    (by_store _ c.args.service c.fault_of_open.ensures.of_store c.requires.allowed) (Keeps-refl _)
 
 pub returns-in-Err-clause-fails : goal.returns-in-Err-clause-fails
 returns-in-Err-clause-fails g c files kept =
-    inl
-    (record {
+    inl (record {
       cause = by_store _ c.args.service c.fault_of_open.ensures.of_store c.requires.allowed;
       silent = Keeps-refl _;
     })

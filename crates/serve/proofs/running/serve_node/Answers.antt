@@ -15,8 +15,7 @@ returns-in-Err-tell_last-clause-err g c =
       h.0,
       h.1,
       h.2,
-    )
-    (told_first _ _ _ _ _ _ c.home.ensures.home
+    ) (told_first _ _ _ _ _ _ c.home.ensures.home
     (c.len.ensures.len ∙ ap length c.log.ensures.entries) c.in_default.ensures.ok)
     c.in-Err-tell_last.ensures.err
 
@@ -30,11 +29,9 @@ returns-clause-ok g c =
       h.0,
       h.1,
       h.2,
-    )
-    (Appends-trans _ _ _ _ _ (told_first _ _ _ _ _ _ c.home.ensures.home
+    ) (Appends-trans _ _ _ _ _ (told_first _ _ _ _ _ _ c.home.ensures.home
     (c.len.ensures.len ∙ ap length c.log.ensures.entries) c.in_default.ensures.ok)
-    c.in_default-tell_last.ensures.ok)
-    c.told_end.ensures
+    c.in_default-tell_last.ensures.ok) c.told_end.ensures
 
 pub returns-clause-err : goal.returns-clause-err
 returns-clause-err g c =
@@ -46,8 +43,6 @@ returns-clause-err g c =
       h.0,
       h.1,
       h.2,
-    )
-    (Appends-trans _ _ _ _ _ (told_first _ _ _ _ _ _ c.home.ensures.home
+    ) (Appends-trans _ _ _ _ _ (told_first _ _ _ _ _ _ c.home.ensures.home
     (c.len.ensures.len ∙ ap length c.log.ensures.entries) c.in_default.ensures.ok)
-    c.in_default-tell_last.ensures.ok)
-    c.told_end.ensures
+    c.in_default-tell_last.ensures.ok) c.told_end.ensures

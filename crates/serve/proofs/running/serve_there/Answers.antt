@@ -1,5 +1,4 @@
-use Rattle.std.proofs.KnownBytes.{Keeps-refl}
-use Rattle.std.proofs.Common.{inl}
+use Rattle.std.proofs.{KnownBytes.Keeps-refl, Common.inl}
 use Rattle.serve.proofs.There.{failed_there}
 use Rattle.serve.proofs.running.serve_there.Goals as goal
 

@@ -9,5 +9,4 @@ loop-second-preserved c =
 
 pub returns-clause-none : goal.returns-clause-none
 returns-clause-none c =
-    all_apart c.args.texts.now c.loop-second.second c.loop-second-test.false
-    c.loop-second.invariant
+    all_apart c.args.texts.now c.loop-second.second c.loop-second-test.false c.loop-second.invariant

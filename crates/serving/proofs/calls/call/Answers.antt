@@ -1,8 +1,7 @@
 use Rattle.std.proofs.Common.{rules, ◌≡◌, ◌++◌, refl}
 use Rattle.replica.specs.declared.roles.fault.NodeFault.TheVariants.{Down}
 use Rattle.serving.proofs.Fates.{AreInRange-append, messages_in_range, calls_so, loses_so}
-use Rattle.serving.proofs.Fates.{keeps_waiting}
-use Rattle.serving.proofs.Parts.{given_err}
+use Rattle.serving.proofs.{Fates.keeps_waiting, Parts.given_err}
 use Rattle.serving.proofs.calls.call.Goals as goal
 
 pub returns-in_ok-append-in-Ok-clause-in_range : goal.returns-in_ok-append-in-Ok-clause-in_range
@@ -12,8 +11,7 @@ returns-in_ok-append-in-Ok-clause-in_range g c =
     c.in-Ok.ensures.takes c.in-Ok.ensures.ended in
     let items : c.append.new.self.items ≡ c.args.waiting.now.items ++ c.in-Ok.messages =
     search rules in
-    rw items
-    (AreInRange-append home.desks home.desk c.args.waiting.now.items c.in-Ok.messages
+    rw items (AreInRange-append home.desks home.desk c.args.waiting.now.items c.in-Ok.messages
     c.requires.in_range range)
 
 pub returns-in_ok-append-in-Ok-clause-ok : goal.returns-in_ok-append-in-Ok-clause-ok
@@ -23,8 +21,7 @@ returns-in_ok-append-in-Ok-clause-ok g c =
     calls_so g.D.Desk.handles (g.D.Desk.home_of c.args.node.now) (g.D.Desk.seen c.args.node.now)
     (g.D.Desk.seen c.handle.new.self) c.args.event _ c.args.waiting.now.items _ _ c.args.node.now
     c.handle.new.self c.in-Ok.ensures.takes c.in-Ok.ensures.ended c.in-Ok.ensures.told
-    c.in-Ok.ensures.down
-    c.in-Ok.ensures.handles refl items
+    c.in-Ok.ensures.down c.in-Ok.ensures.handles refl items
 
 pub returns-in_err-append-in-Ok-clause-err : goal.returns-in_err-append-in-Ok-clause-err
 returns-in_err-append-in-Ok-clause-err g c =
@@ -40,14 +37,12 @@ returns-then-eq-clause-ok g c =
     calls_so g.D.Desk.handles (g.D.Desk.home_of c.args.node.now) (g.D.Desk.seen c.args.node.now)
     (g.D.Desk.seen c.handle.new.self) c.args.event _ c.args.waiting.now.items _ _ c.args.node.now
     c.handle.new.self c.in-Err.ensures.takes c.in-Err.ensures.ended c.in-Err.ensures.told
-    c.in-Err.ensures.down
-    c.in-Err.ensures.handles refl (search rules)
+    c.in-Err.ensures.down c.in-Err.ensures.handles refl (search rules)
 
 pub returns-else-eq-clause-ok : goal.returns-else-eq-clause-ok
 returns-else-eq-clause-ok g c =
     calls_so g.D.Desk.handles (g.D.Desk.home_of c.args.node.now) (g.D.Desk.seen c.args.node.now)
     (g.D.Desk.seen c.handle.new.self) c.args.event _ c.args.waiting.now.items _ _ c.args.node.now
     c.handle.new.self c.in-Err.ensures.takes c.in-Err.ensures.ended c.in-Err.ensures.told
-    c.in-Err.ensures.down
-    c.in-Err.ensures.handles refl
+    c.in-Err.ensures.down c.in-Err.ensures.handles refl
     (keeps_waiting c.args.waiting.now.items c.in-Err.fault (search rules))

@@ -29,8 +29,7 @@ returns-in-Ok-clause-in_range g c =
     let x = (g.D.Desk.seen c.args.node.now).desk in
     let is : c.in-Ok.told ≡ told x.log x.queue c.args.id = search rules in
     let place : HasPlace c.state_of.result =
-    subst HasPlace (sym c.state_of.ensures)
-    (subst (λ t. HasPlace (state_of t)) (sym is)
+    subst HasPlace (sym c.state_of.ensures) (subst (λ t. HasPlace (state_of t)) (sym is)
     (placed_by x.log x.queue c.args.id (position_of x.log c.args.id) c.log-log.ensures.most)) in
     record {
       body = λ version. (c.requires, state_told version c.state_of.result place);

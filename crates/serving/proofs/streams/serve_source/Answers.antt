@@ -1,9 +1,8 @@
 use Rattle.std.proofs.Common.{refl, sym, ap, ◌∙◌, [], inl, arith}
-use Rattle.serving.specs.declared.ends.ConnectionEnd.TheVariants as end
-use Rattle.serving.specs.Sessions.{line}
-use Rattle.serving.specs.Turns.{Talk}
+use Rattle.serving.specs.{Sessions.line, Turns.Talk}
 use Rattle.serving.proofs.Pieces.{nothing_yet, is_open, stops_so_far}
 use Rattle.serving.proofs.Waiting.{new_so_far, new_wants, source_more, source_stops}
+use Rattle.serving.specs.declared.ends.ConnectionEnd.TheVariants as end
 use Rattle.serving.proofs.streams.serve_source.Goals as goal
 
 pub loop-reads-init : goal.loop-reads-init
@@ -39,8 +38,7 @@ returns-in-Some-clause-served g c =
     (line c.serve_piece.new.node c.serve_piece.new.peers c.serve_piece.new.writer)
     c.loop-reads.connection c.serve_piece.new.connection
     _ _ _ _ _ _ _ _ _ kept.so_far.3 c.in-Ok-read_once.ensures.bytes.0 kept.first kept.wire piece
-    c.in-Some.is
-    (omega (arith, kept.counted, c.read_once.ensures.counted, c.loop-reads-test.true))
+    c.in-Some.is (omega (arith, kept.counted, c.read_once.ensures.counted, c.loop-reads-test.true))
     (c.in-Ok-read_once.ensures.good ∙ kept.whole) c.served-in-Some.ensures
 
 pub loop-reads-preserved-in_default-serve_piece : goal.loop-reads-preserved-in_default-serve_piece
@@ -60,8 +58,7 @@ loop-reads-preserved-in_default-serve_piece g c =
           (line c.args.node.now c.args.peers.now c.args.writer.now)
           (line c.loop-reads.node c.loop-reads.peers c.loop-reads.writer)
           (line c.serve_piece.new.node c.serve_piece.new.peers c.serve_piece.new.writer)
-          c.loop-reads.connection c.serve_piece.new.connection
-          _ _ _ _ _ _ _ _ kept.so_far.3
+          c.loop-reads.connection c.serve_piece.new.connection _ _ _ _ _ _ _ _ kept.so_far.3
           c.in-Ok-read_once.ensures.bytes.0 kept.first kept.wire c.serve_piece.ensures.piece
           c.in_default-serve_piece.is;
     }

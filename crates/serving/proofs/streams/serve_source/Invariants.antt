@@ -1,7 +1,5 @@
 use Rattle.std.proofs.Common.{◌≡◌, ℕ, List, ◌-◌, ◌≤◌}
-use Rattle.serving.specs.Connection.{Begun}
-use Rattle.serving.specs.Sessions.{line, sides_of}
-use Rattle.serving.specs.Turns.{WantsRead}
+use Rattle.serving.specs.{Connection.Begun, Sessions.line, Sessions.sides_of, Turns.WantsRead}
 use Rattle.serving.proofs.Pieces.{SoFar}
 use Rattle.serving.proofs.streams.serve_source.Given as goal
 

@@ -1,8 +1,6 @@
 use Rattle.std.proofs.Common.{sym, subst, ◌∙◌, [], length, rules}
-use Rattle.serving.specs.Sessions.{line}
-use Rattle.serving.specs.model.Sessions.{ServesWaiting}
-use Rattle.serving.proofs.Waiting.{served_none, waiting_more, waiting_cut, waiting_done}
-use Rattle.serving.proofs.Waiting.{fewer_wait}
+use Rattle.serving.specs.{Sessions.line, model.Sessions.ServesWaiting}
+use Rattle.serving.proofs.Waiting.{served_none, waiting_more, waiting_cut, waiting_done, fewer_wait}
 use Rattle.serving.proofs.streams.serve_waiting.Goals as goal
 
 pub loop-may-init : goal.loop-may-init

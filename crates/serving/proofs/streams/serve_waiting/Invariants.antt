@@ -1,7 +1,6 @@
 use Rattle.std.proofs.Common.{◌≡◌, List, length}
-use Rattle.serving.specs.Connection.{Begun}
+use Rattle.serving.{specs.Connection.Begun, proofs.Waiting.HasServed}
 use Rattle.serving.specs.Sessions.{line, sides_of}
-use Rattle.serving.proofs.Waiting.{HasServed}
 use Rattle.serving.proofs.streams.serve_waiting.Given as goal
 
 -- the frames so far are served, and their answers are written

@@ -1,6 +1,5 @@
 use Rattle.std.proofs.Common.{◌∙◌, sym, zero-add}
-use Rattle.sheets.specs.Sheet.{attempt_text}
-use Rattle.sheets.proofs.Ranges.{field_more}
+use Rattle.sheets.{specs.Sheet.attempt_text, proofs.Ranges.field_more}
 use Rattle.sheets.proofs.as_table.push_attempts.Goals as goal
 
 pub loop-place-preserved : goal.loop-place-preserved

@@ -1,8 +1,7 @@
 use Rattle.std.proofs.Common.{◌++◌, map}
 use Rattle.std.specs.List.{range_with_len}
 use Rattle.csv.specs.Records.{fields_of}
-use Rattle.sheets.specs.Sheet.{attempt_text}
-use Rattle.sheets.specs.model.Output.{HasFields}
+use Rattle.sheets.specs.{Sheet.attempt_text, model.Output.HasFields}
 use Rattle.sheets.proofs.as_table.push_attempts.Given as goal
 
 abbrev pub invariant-loop-place : goal.invariant-loop-place

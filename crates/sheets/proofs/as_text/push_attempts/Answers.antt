@@ -10,11 +10,9 @@ loop-place-preserved c =
     (c.deref.ensures.value ∙ c.in_ok-text.ensures)
     ∙ ap (λ x. x
     ++ (codes " " ++ right (columns c.args.unit)
-    (attempt_text c.args.unit c.args.values.now c.loop-place.place)))
-    c.loop-place.invariant
+    (attempt_text c.args.unit c.args.values.now c.loop-place.place))) c.loop-place.invariant
     ∙ append_assoc c.args.out.now.items
     (attempts c.args.unit c.loop-place.place c.args.values.now) _
-    ∙ ap (λ x. c.args.out.now.items ++ x)
-    (sym (range_more (λ k. codes " "
+    ∙ ap (λ x. c.args.out.now.items ++ x) (sym (range_more (λ k. codes " "
     ++ right (columns c.args.unit) (attempt_text c.args.unit c.args.values.now k))
     c.loop-place.place))

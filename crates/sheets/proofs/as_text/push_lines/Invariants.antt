@@ -6,6 +6,5 @@ use Rattle.sheets.proofs.as_text.push_lines.Given as goal
 abbrev pub invariant-loop-number : goal.invariant-loop-number
 invariant-loop-number l =
     l.out.items
-    ++ flat_map (line_shown l.shown) (drop l.number-index l.numbers)
-    ≡ l.initial.out.items
+    ++ flat_map (line_shown l.shown) (drop l.number-index l.numbers) ≡ l.initial.out.items
     ++ flat_map (line_shown l.shown) l.numbers

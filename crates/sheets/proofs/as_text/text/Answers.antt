@@ -1,6 +1,5 @@
 use Rattle.std.proofs.Common.{ap}
-use Rattle.sheets.specs.Sheet.{text_of_round}
-use Rattle.sheets.proofs.Rows.{printed}
+use Rattle.sheets.{specs.Sheet.text_of_round, proofs.Rows.printed}
 use Rattle.sheets.proofs.as_text.text.Goals as goal
 
 pub returns-in-Ok-clause-sheet : goal.returns-in-Ok-clause-sheet

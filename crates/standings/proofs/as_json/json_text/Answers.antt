@@ -1,7 +1,6 @@
 use Rattle.std.proofs.Common.{◌∙◌}
 use Rattle.standings.specs.AsJson.{hall_json}
-use Rattle.standings.proofs.Adding.{text_of_value}
-use Rattle.standings.proofs.Depths.{reads_back_of}
+use Rattle.standings.proofs.{Adding.text_of_value, Depths.reads_back_of}
 use Rattle.standings.proofs.as_json.json_text.Goals as goal
 
 pub returns-clause-text : goal.returns-clause-text

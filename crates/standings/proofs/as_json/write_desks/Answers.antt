@@ -1,7 +1,5 @@
 use Rattle.std.proofs.Common.{refl}
-use Rattle.standings.specs.AsJson.{polled_json}
-use Rattle.standings.proofs.Adding.{one_more}
-use Rattle.standings.proofs.Left.{items_left}
+use Rattle.standings.{specs.AsJson.polled_json, proofs.Adding.one_more, proofs.Left.items_left}
 use Rattle.standings.proofs.as_json.write_desks.Goals as goal
 
 pub loop-one-preserved : goal.loop-one-preserved

@@ -6,5 +6,4 @@ returns c =
     on_ok c.end_object.result
     (λ last. then (wrote c.in_ok-begin_object.ensures) (then (wrote c.in_ok-key.ensures) (then
     c.in_ok-write_byte.ensures (then (wrote c.in_ok-key-2.ensures) (then
-    c.in_ok-write_natural.ensures last)))))
-    (wrote_last c.end_object.result c.end_object.ensures)
+    c.in_ok-write_natural.ensures last))))) (wrote_last c.end_object.result c.end_object.ensures)

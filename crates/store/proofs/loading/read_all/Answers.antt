@@ -1,8 +1,6 @@
 use Rattle.std.proofs.Common.{sym, subst}
-use Rattle.sqlite.specs.Held.{state}
-use Rattle.sqlite.specs.Effect.{Database}
-use Rattle.store.specs.Layout.{IsOurs}
-use Rattle.store.proofs.Saving.{spares_itself, spares_on}
+use Rattle.sqlite.specs.{Held.state, Effect.Database}
+use Rattle.store.{specs.Layout.IsOurs, proofs.Saving.spares_itself, proofs.Saving.spares_on}
 use Rattle.store.proofs.loading.read_all.Goals as goal
 
 pub returns-in-Err-read_log-clause-spares : goal.returns-in-Err-read_log-clause-spares

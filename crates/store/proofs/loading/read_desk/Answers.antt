@@ -1,7 +1,6 @@
 use Rattle.std.proofs.Common.{refl, sym, ap, subst, length, IsPermutation, map, ◌∙◌}
 use Rattle.sqlite.specs.Held.{state}
-use Rattle.store.specs.Holding.{shown_desk}
-use Rattle.store.proofs.Decoding.{desk_found}
+use Rattle.store.{specs.Holding.shown_desk, proofs.Decoding.desk_found}
 use Rattle.store.proofs.Places.{given_desk, given_one}
 use Rattle.store.proofs.loading.read_desk.Goals as goal
 
@@ -24,6 +23,5 @@ returns-in-Ok-None-clause-damaged g c _ clean ours home s whole is =
 pub returns-clause-damaged : goal.returns-clause-damaged
 returns-clause-damaged g c _ clean ours home s whole is =
     let stored = (state g.S.Store c.args.conn.now).now.trees 0 in
-    c.in-None.ensures.none refl
-    (ap length c.as_slice.ensures.value
+    c.in-None.ensures.none refl (ap length c.as_slice.ensures.value
     ∙ given_one stored c.in-Ok.rows.items home s (c.in-Ok.ensures.rows clean ours) is)

@@ -1,8 +1,6 @@
 use Rattle.std.proofs.Common.{◌∙◌, ap, subst₂, length}
 use Rattle.sqlite.specs.Held.{state}
-use Rattle.store.specs.Ranges.{IsFit}
-use Rattle.store.specs.model.Unique.{one_state}
-use Rattle.store.proofs.Saving.{spares_on}
+use Rattle.store.{specs.Ranges.IsFit, specs.model.Unique.one_state, proofs.Saving.spares_on}
 use Rattle.store.proofs.opening.examine.Goals as goal
 
 pub returns-in-Ok-clause-same : goal.returns-in-Ok-clause-same

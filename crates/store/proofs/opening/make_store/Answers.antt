@@ -1,7 +1,6 @@
 use Rattle.std.proofs.Common.{[], arith}
 use Rattle.acceptor.specs.Storing.{first_stored}
-use Rattle.store.proofs.Saving.{own_desk}
-use Rattle.store.proofs.Homes.{first_is_sound}
+use Rattle.store.proofs.{Saving.own_desk, Homes.first_is_sound}
 use Rattle.store.proofs.opening.make_store.Goals as goal
 
 pub returns-in-Ok-clause-ours : goal.returns-in-Ok-clause-ours

@@ -1,6 +1,5 @@
 use Rattle.std.proofs.Common.{◌≡◌, map, take}
-use Rattle.store.specs.Holding.{log_values, entry_columns}
-use Rattle.store.specs.Whole.{LogIsWhole}
+use Rattle.store.specs.{Holding.log_values, Holding.entry_columns, Whole.LogIsWhole}
 use Rattle.store.proofs.row_values.log_of.Given as goal
 
 abbrev pub invariant-loop-row : goal.invariant-loop-row

@@ -1,6 +1,5 @@
 use Rattle.std.proofs.Common.{◌∙◌, ap, ap₂, ◌∷◌, sym, subst, drop}
-use Rattle.store.specs.Layout.{HasNoKey}
-use Rattle.store.proofs.Patterns.{two_and_more, rest}
+use Rattle.store.{specs.Layout.HasNoKey, proofs.Patterns.two_and_more, proofs.Patterns.rest}
 use Rattle.store.proofs.schema.is_ours.Goals as goal
 
 pub returns-then-has_entries-clause-is : goal.returns-then-has_entries-clause-is

@@ -1,10 +1,8 @@
 use Rattle.std.proofs.Common.{◌≡◌, inl, inr, sym, subst, arith, rules, OnOk, true, []}
 use Rattle.std.proofs.lemmas.Result.{IfOk-weaker}
-use Rattle.sqlite.specs.State.{HasCleanDisk}
-use Rattle.sqlite.specs.Held.{state}
+use Rattle.sqlite.specs.{State.HasCleanDisk, Held.state}
 use Rattle.acceptor.specs.Storing.{first_stored}
-use Rattle.store.specs.Holding.{Holds}
-use Rattle.store.specs.Kept.{Keeps}
+use Rattle.store.specs.{Holding.Holds, Kept.Keeps}
 use Rattle.store.proofs.Making.{makes_rows, makes_store}
 use Rattle.store.proofs.schema.make_tables.Goals as goal
 
@@ -28,8 +26,7 @@ returns-clause-made g c clean bare =
     let entries = c.in_ok-execute-2.ensures.runs clean2 desk.1.mode in
     let row = c.in_ok-execute-3.ensures.runs clean3 entries.1.mode in
     subst (λ h. OnOk c.commit.result (Keeps c.args.home first_stored [] (state g.S.Store h))) same
-    (IfOk-weaker c.commit.result _ _
-    (λ _ h.
+    (IfOk-weaker c.commit.result _ _ (λ _ h.
     makes_store (state g.S.Store (record old { in_transaction = true })) (state g.S.Store one)
     (state g.S.Store two) (state g.S.Store three) (state g.S.Store end) c.args.home
     c.in_ok-execute.field-0 c.in_ok-execute-2.field-0 c.in_ok-execute-3.field-0 bare
@@ -59,8 +56,7 @@ returns-clause-crash g c clean bare db left =
     let started = state g.S.Store (record old { in_transaction = true }) in
     let made =
     makes_rows started (state g.S.Store one) (state g.S.Store two) (state g.S.Store three)
-    c.args.home
-    c.in_ok-execute.field-0 c.in_ok-execute-2.field-0 c.in_ok-execute-3.field-0 bare
+    c.args.home c.in_ok-execute.field-0 c.in_ok-execute-2.field-0 c.in_ok-execute-3.field-0 bare
     (rw begun at desk.0) entries.0
     (rw (c.number.ensures, c.small.ensures, c.small-2.ensures) at row.0) in
     let at_end = subst (λ h. (state g.S.Store h).may_leave db) (sym same) left in

@@ -5,8 +5,7 @@ use Rattle.store.proofs.statements.+make_each.Goals as goal
 pub returns-in-Ok-clause-makes : goal.returns-in-Ok-clause-makes
 returns-in-Ok-clause-makes g t c =
     each_more c.args.at c.length_after.result c.in-Ok.field-0 c.args.changes.now _
-    c.change-item.result
-    (state g.S.Store c.args.tx.now.conn.now)
+    c.change-item.result (state g.S.Store c.args.tx.now.conn.now)
     (state g.S.Store c.make.new.tx.conn.now) (state g.S.Store c.make_each.new.tx.conn.now)
     c.make_each.result c.in-Ok.ensures.makes c.length_after.ensures
     c.make_each.ensures.survives c.make_each.ensures.makes

@@ -1,7 +1,6 @@
 use Rattle.std.proofs.Common.{◌≡◌, rules, Err, subst}
 use Rattle.sqlite.specs.Held.{state}
-use Rattle.store.specs.Inside.{SavesAllAt}
-use Rattle.store.proofs.Together.{all_made, all_stops}
+use Rattle.store.{specs.Inside.SavesAllAt, proofs.Together.all_made, proofs.Together.all_stops}
 use Rattle.store.proofs.statements.make_all.Goals as goal
 
 pub returns-then-not-is_autocommit-clause-saves : goal.returns-then-not-is_autocommit-clause-saves
@@ -12,11 +11,9 @@ pub returns-in-Ok-clause-saves : goal.returns-in-Ok-clause-saves
 returns-in-Ok-clause-saves g c =
     let end = c.commit.new.self.0 in
     let same : end ≡ c.conn-1.given.0 = search rules in
-    subst
-    (λ h.
+    subst (λ h.
     SavesAllAt {X = Unit {0}} c.args.len c.args.changes.now (state g.S.Store c.args.conn.now)
-    (state g.S.Store h) c.commit.result)
-    same
+    (state g.S.Store h) c.commit.result) same
     (all_made (state g.S.Store c.args.conn.now) (state g.S.Store c.make_each.new.tx.conn.now)
     (state g.S.Store end) c.args.len c.args.changes.now _ c.commit.result
     (g.met.S.Store.settled c.args.conn.now.store)
@@ -28,11 +25,9 @@ pub returns-in-Err-clause-saves : goal.returns-in-Err-clause-saves
 returns-in-Err-clause-saves g c =
     let end = c.drop-tx.new.self.0 in
     let same : end ≡ c.conn-in-Err-1.given.0 = search rules in
-    subst
-    (λ h.
+    subst (λ h.
     SavesAllAt {X = Unit {0}} c.args.len c.args.changes.now (state g.S.Store c.args.conn.now)
-    (state g.S.Store h) (Err c.in-Err.error))
-    same
+    (state g.S.Store h) (Err c.in-Err.error)) same
     (all_stops (state g.S.Store c.args.conn.now) (state g.S.Store c.make_each.new.tx.conn.now)
     (state g.S.Store end) c.args.len c.args.changes.now c.in-Err.error
     (g.met.S.Store.settled c.args.conn.now.store)

@@ -1,8 +1,7 @@
 use Rattle.std.proofs.Common.{Bool, ◌∙◌, subst, sym}
 use Rattle.std.proofs.KnownBytes.{Keeps-refl}
 use Rattle.subcommands.specs.Asking.{EndsAsBidden, EndsRequest}
-use Rattle.subcommands.specs.Places.{reach}
-use Rattle.subcommands.proofs.Unnamed.{names_none}
+use Rattle.subcommands.{specs.Places.reach, proofs.Unnamed.names_none}
 use Rattle.subcommands.proofs.asking.carry_at.Goals as goal
 
 pub returns-then-lacks_name-clause-ends : goal.returns-then-lacks_name-clause-ends
@@ -13,9 +12,7 @@ returns-then-lacks_name-clause-ends g c =
     c.args.faults.now in
     subst
     (λ (b : Bool). EndsAsBidden b c.args.place c.args.patience c.args.request c.unnamed_at.result r
-    old old)
-    (sym c.if-lacks_name.true ∙ c.lacks_name.ensures)
-    (c.unnamed_at.ensures, Keeps-refl _)
+    old old) (sym c.if-lacks_name.true ∙ c.lacks_name.ensures) (c.unnamed_at.ensures, Keeps-refl _)
 
 pub returns-then-lacks_name-clause-quiet : goal.returns-then-lacks_name-clause-quiet
 returns-then-lacks_name-clause-quiet g c =
@@ -31,9 +28,6 @@ returns-clause-ends g c =
     c.args.faults.now in
     subst
     (λ (b : Bool). EndsAsBidden b c.args.place c.args.patience c.args.request c.carry_named.result r
-    old new)
-    (sym c.if-lacks_name.false ∙ c.lacks_name.ensures)
-    (subst
+    old new) (sym c.if-lacks_name.false ∙ c.lacks_name.ensures) (subst
     (λ (n : Bool). EndsRequest c.args.place c.args.patience c.args.request n c.carry_named.result r
-    old new)
-    c.is_of_file-names.ensures c.carry_named.ensures.ends)
+    old new) c.is_of_file-names.ensures c.carry_named.ensures.ends)

@@ -1,7 +1,6 @@
 use Rattle.std.proofs.Common.{false, subst, sym, ◌≡◌}
 use Rattle.std.specs.Io.KnownBytes.{Keeps}
-use Rattle.subcommands.specs.Asking.{EndsErrand, errand_of}
-use Rattle.subcommands.specs.Places.{reach}
+use Rattle.subcommands.specs.{Asking.EndsErrand, Asking.errand_of, Places.reach}
 use Rattle.subcommands.proofs.Ending.{as_before, as_it_ended, done}
 use Rattle.subcommands.proofs.asking.carry_named.Goals as goal
 
@@ -12,8 +11,7 @@ returns-clause-ends g c =
     let status = c.tell_asked.result in
     done c.args.place c.args.patience status
     (reach g.D.Dial.dialed g.F.Write.contents c.args.dial.now c.carry-asked.new.dial
-    c.args.faults.now)
-    (Keeps old new)
+    c.args.faults.now) (Keeps old new)
     (λ one there t. EndsErrand status (errand_of c.args.names one there c.args.request) t old new)
     c.in-Ok.found c.contact_of-contact.result
     (g.D.Dial.dialed c.found_at.new.dial) (g.F.Write.contents c.found_at.new.faults) false

@@ -1,8 +1,7 @@
 use Rattle.std.proofs.Common.{false, subst, sym, ◌≡◌}
 use Rattle.std.specs.Io.KnownBytes.{Keeps}
 use Rattle.desk_requests.specs.declared.logs.LogForm.{LogForm}
-use Rattle.subcommands.specs.Asking.{EndsCopy, EndsCopyLog}
-use Rattle.subcommands.specs.Places.{reach}
+use Rattle.subcommands.specs.{Asking.EndsCopy, Asking.EndsCopyLog, Places.reach}
 use Rattle.subcommands.proofs.Ending.{as_before, as_it_ended, done}
 use Rattle.subcommands.proofs.asking.copy_log_at.Goals as goal
 
@@ -15,10 +14,8 @@ returns-clause-ends g c =
     c.args.faults.now in
     let form = c.log_form-form.result in
     let status = c.tell_asked.result in
-    subst
-    (λ (f : LogForm). EndsCopyLog c.args.place c.args.patience c.args.from f status r old new)
-    c.log_form-form.ensures
-    (done c.args.place c.args.patience status r
+    subst (λ (f : LogForm). EndsCopyLog c.args.place c.args.patience c.args.from f status r old new)
+    c.log_form-form.ensures (done c.args.place c.args.patience status r
     (Keeps old new) (λ one _ t. EndsCopy status one form c.args.from t old new)
     c.in-Ok.found c.contact_of-contact.result
     (g.D.Dial.dialed c.found_at.new.dial) (g.F.Write.contents c.found_at.new.faults) false

@@ -1,8 +1,6 @@
-use Rattle.std.proofs.Common.{inl, inr}
-use Rattle.std.specs.Io.KnownBytes.{Keeps}
+use Rattle.std.{proofs.Common.inl, proofs.Common.inr, specs.Io.KnownBytes.Keeps}
 use Rattle.subcommands.specs.Entering.{EndsOne, Probed, Single}
-use Rattle.subcommands.specs.Places.{reach}
-use Rattle.subcommands.proofs.Ending.{done}
+use Rattle.subcommands.{specs.Places.reach, proofs.Ending.done}
 use Rattle.subcommands.proofs.entering.enter_at.Goals as goal
 
 pub returns-in-Ok-enter_one : goal.returns-in-Ok-enter_one
@@ -32,8 +30,7 @@ returns g c =
     record { id = c.args.id; text = c.args.text.now; waits = c.args.waits } in
     done c.args.place c.args.patience c.tell_asked.result
     (reach g.D.Dial.dialed g.F.Write.contents c.args.dial.now c.enter_one.new.dial
-    c.args.faults.now)
-    (Keeps old new)
+    c.args.faults.now) (Keeps old new)
     (λ one _ t. Probed one t (λ u. EndsOne c.tell_asked.result one single u old new))
     c.in-Ok.found c.contact_of-contact.result
     (g.D.Dial.dialed c.found_at.new.dial) (g.F.Write.contents c.found_at.new.faults)

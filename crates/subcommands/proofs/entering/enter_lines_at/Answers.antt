@@ -1,7 +1,6 @@
 use Rattle.std.specs.Io.KnownBytes.{Keeps}
 use Rattle.lines.specs.Bytes.{sides}
-use Rattle.subcommands.specs.Entering.{EndsInput, Probed}
-use Rattle.subcommands.specs.Places.{reach}
+use Rattle.subcommands.specs.{Entering.EndsInput, Entering.Probed, Places.reach}
 use Rattle.subcommands.proofs.Ending.{as_it_ended, done}
 use Rattle.subcommands.proofs.entering.enter_lines_at.Goals as goal
 
@@ -13,8 +12,7 @@ returns g c =
     let status = c.tell_asked.result in
     done c.args.place c.args.patience status
     (reach g.D.Dial.dialed g.F.Write.contents c.args.dial.now c.enter_all-asked.new.dial
-    c.args.faults.now)
-    (Keeps s.had s.left × Keeps s.old s.new)
+    c.args.faults.now) (Keeps s.had s.left × Keeps s.old s.new)
     (λ one _ t. Probed one t (EndsInput status one c.args.lines s))
     c.in-Ok.found c.contact_of-contact.result
     (g.D.Dial.dialed c.found_at.new.dial) (g.F.Write.contents c.found_at.new.faults)

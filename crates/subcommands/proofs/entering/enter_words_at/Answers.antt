@@ -1,6 +1,5 @@
 use Rattle.std.proofs.Common.{◌∙◌, List, inr, subst, ℕ}
-use Rattle.subcommands.specs.Entering.{EndsEnter, IsFit}
-use Rattle.subcommands.specs.Places.{reach}
+use Rattle.subcommands.specs.{Entering.EndsEnter, Entering.IsFit, Places.reach}
 use Rattle.subcommands.proofs.entering.enter_words_at.Goals as goal
 
 pub returns : goal.returns
@@ -8,8 +7,7 @@ returns g c =
     let old = g.W.Write.contents c.args.writer.now in
     let new = g.W.Write.contents c.enter_at.new.writer in
     let r =
-    reach g.D.Dial.dialed g.F.Write.contents c.args.dial.now c.enter_at.new.dial
-    c.fit.new.faults in
+    reach g.D.Dial.dialed g.F.Write.contents c.args.dial.now c.enter_at.new.dial c.fit.new.faults in
     let bytes = c.as_bytes.ensures.value ∙ c.in-Ok.ensures.ok in
     let text = c.as_str-text.ensures.value ∙ c.in-Ok.ensures.ok in
     inr (inr (

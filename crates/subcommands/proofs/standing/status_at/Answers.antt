@@ -13,11 +13,9 @@ returns-in-Err-key_of_hall g c =
     let writer = c.args.writer.now in
     let o = outside g.D.Dial.dialed g.W.Write.contents dial dial writer writer in
     let told = c.tell-in-Err-key_of_hall in
-    subst
-    (λ (d : DeskPlaces).
+    subst (λ (d : DeskPlaces).
     EndsStatus d c.args.patience c.args.way.form c.args.way.watches c.args.way.all told.result o)
-    (sym c.in-File.is)
-    (inl (
+    (sym c.in-File.is) (inl (
       c.in-Err-key_of_hall.fault,
       told.ensures,
       inr (
@@ -35,11 +33,9 @@ returns-in_default g c =
     let dial = c.args.dial.now in
     let writer = c.args.writer.now in
     let o = outside g.D.Dial.dialed g.W.Write.contents dial dial writer writer in
-    subst
-    (λ (d : DeskPlaces).
+    subst (λ (d : DeskPlaces).
     EndsStatus d c.args.patience c.args.way.form c.args.way.watches c.args.way.all
-    c.tell-in_default.result o)
-    (sym c.in-File.is)
+    c.tell-in_default.result o) (sym c.in-File.is)
     (inl (fault.Run run.NoMemory, c.tell-in_default.ensures, inl (inr refl), refl, Keeps-refl _))
 
 pub returns-in-Ok-addresses_of : goal.returns-in-Ok-addresses_of
@@ -49,11 +45,9 @@ returns-in-Ok-addresses_of g c =
     outside g.D.Dial.dialed g.W.Write.contents c.args.dial.now asked.new.dial c.args.writer.now
     asked.new.writer in
     let texts = ap (map (λ (t : Bor (List ℕ)). t.now)) c.deref.ensures.value in
-    subst
-    (λ (d : DeskPlaces).
+    subst (λ (d : DeskPlaces).
     EndsStatus d c.args.patience c.args.way.form c.args.way.watches c.args.way.all asked.result o)
-    (sym c.in-File.is)
-    (inr (
+    (sym c.in-File.is) (inr (
       c.in-Ok-hall_of_file.hall,
       c.in-Ok-hall_of_file.ensures.ok.0,
       c.in-Ok-hall_of_file.ensures.ok.1,

@@ -1,8 +1,7 @@
 use Rattle.std.proofs.Common.{codes}
 use Rattle.markup.proofs.board_page.Steps.{three_parts}
 use Rattle.round_words.specs.Words.{round_name}
-use Rattle.table_entry_views.specs.Card.{closed_words}
-use Rattle.table_entry_views.specs.declared.card.TheConstants.{CLOSED_START}
+use Rattle.table_entry_views.specs.{Card.closed_words, declared.card.TheConstants.CLOSED_START}
 use Rattle.table_entry_views.proofs.card.push_closed_words.Goals as goal
 
 pub returns : goal.returns

@@ -14,13 +14,11 @@ returns c =
     let bounds = bounds_of_form (floor_of c.args.id.event) c.args.best in
     let spares = flat_map spare (drop 1 c.args.ids.now) in
     two_parts out (rules ++ bounds ++ spares) (codes "\">\n") _ _
-    (three_parts out rules bounds spares _ _ _
-    (c.in_ok-push_rules_of_form.ensures
+    (three_parts out rules bounds spares _ _ _ (c.in_ok-push_rules_of_form.ensures
     ∙ ap (λ unit. out ++ rules_of_form settings unit) c.unit_of.ensures)
     (c.in_ok-push_bounds.ensures
     ∙ ap (λ floor. c.push_rules_of_form.new.out.items ++ bounds_of_form floor c.args.best)
-    c.floor_of.ensures)
-    (c.in_ok-push_spares.ensures
+    c.floor_of.ensures) (c.in_ok-push_spares.ensures
     ∙ ap (λ few. c.push_bounds.new.out.items ++ flat_map spare few)
     (rest_whole c.as_slice-all.result.now ∙ ap (λ all. drop 1 all) c.as_slice-all.ensures)))
     c.in_ok-extend_from_slice.ensures.items

@@ -1,13 +1,10 @@
-use Rattle.std.proofs.Common.{codes}
-use Rattle.std.proofs.lemmas.Result.{on_ok_weaker}
-use Rattle.markup.proofs.board_page.Steps.{three_parts, when_ok}
-use Rattle.table_entry_views.specs.Notes.{note_line, note_words}
+use Rattle.std.proofs.Common.{append_assoc}
+use Rattle.table_entry_views.specs.Notes.{note_line}
+use Rattle.table_views.proofs.Tails.{same_end}
 use Rattle.table_entry_views.proofs.notes.push_note.Goals as goal
 
 pub returns : goal.returns
 unfolding note_line
 returns c =
-    on_ok_weaker c.extend_from_slice-2.result
-    (three_parts c.args.out.now.items (codes "<strong role=\"alert\">") (note_words c.args.note)
-    (codes "</strong>") _ _ _ c.in_ok-extend_from_slice.ensures.items c.in_ok-push_words.ensures)
-    (when_ok _ _ _ _ c.extend_from_slice-2.ensures.items)
+    same_end c.extend_from_slice-2.result _ _ _ _
+    (simp (c.in_ok-extend_from_slice.ensures.items, c.in_ok-push_words.ensures, append_assoc)) c.extend_from_slice-2.ensures.items

@@ -14,8 +14,7 @@ returns c =
     let are : AreLastEntering log round number (stands_of log round number) last =
     subst (λ (stands : ℕ). AreLastEntering log round number stands last)
     c.stands_of-stands.ensures.stands c.in_ok-last.ensures in
-    IfOk-weaker c.all_typed_at.result _ (AreFilled log round number)
-    (λ texts is. (
+    IfOk-weaker c.all_typed_at.result _ (AreFilled log round number) (λ texts is. (
       last,
       are,
       is

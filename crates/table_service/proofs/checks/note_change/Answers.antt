@@ -1,11 +1,10 @@
 use Rattle.std.proofs.Common.{◌≡◌, ◌∙◌, ◌+◌, ◌++◌, ◌∷◌, [], ℕ, Bool, true, false, List, Option, ap}
 use Rattle.std.proofs.Common.{append-nil, cond, slice_get, sym, Result, Ok, Err}
-use Rattle.std.specs.Prelude.{OnOk}
-use Rattle.std.specs.declared.alloc.AllocError.{AllocError}
+use Rattle.std.specs.{Prelude.OnOk, declared.alloc.AllocError.AllocError}
 use Rattle.attempts.specs.declared.Value.{Value}
 use Rattle.table_entry_views.specs.declared.notes.CardNote.{CardNote}
-use Rattle.table_entry_views.specs.declared.notes.CardNote.TheVariants as note
 use Rattle.table_service.specs.Checks.{change_at, is_left}
+use Rattle.table_entry_views.specs.declared.notes.CardNote.TheVariants as note
 use Rattle.table_service.proofs.checks.note_change.Goals as goal
 
 module _ (was left : List Value) (place : ℕ) (o p : Option Value) (b : Bool)
@@ -28,8 +27,7 @@ module _ (was left : List Value) (place : ℕ) (o p : Option Value) (b : Bool)
 pub returns-then-is_left : goal.returns-then-is_left
 returns-then-is_left c =
     sym (append-nil c.args.notes.now.items)
-    ∙ ap (λ (ns : List CardNote). c.args.notes.now.items ++ ns)
-    (sym
+    ∙ ap (λ (ns : List CardNote). c.args.notes.now.items ++ ns) (sym
     (changes c.args.was.now c.args.left.now c.args.place c.value_at.result c.value_at-2.result
     c.is_left.result c.value_at.ensures c.value_at-2.ensures c.is_left.ensures true
     c.if-is_left.true))

@@ -9,7 +9,6 @@ invariant-loop-at l = record {
   end : l.at-end ≡ min (length l.now) 5;
   left : l.notes.items
       ++ flat_map (unsolved_at (scramble_of l.meet.accepted l.id.event l.id.round) l.now l.left)
-      (range_with_len l.at (min (length l.now) 5 - l.at))
-      ≡ l.initial.notes.items
+      (range_with_len l.at (min (length l.now) 5 - l.at)) ≡ l.initial.notes.items
       ++ unsolved_notes (scramble_of l.meet.accepted l.id.event l.id.round) l.now l.left;
 }

@@ -1,17 +1,11 @@
 use Rattle.std.proofs.Common.{◌≡◌, ◌∷◌, [], ℕ, List, Some, Result, Ok, Err, codes, inr, subst}
-use Rattle.std.specs.Prelude.{IfOk}
-use Rattle.std.specs.declared.alloc.AllocError.{AllocError}
-use Rattle.card_forms.specs.declared.pairs.Pair.{Pair}
-use Rattle.card_forms.specs.Asking.{Asks, IsCommandText}
-use Rattle.card_forms.specs.Cards.{form_id_of}
-use Rattle.card_forms.specs.Entries.{entry_with}
-use Rattle.card_forms.specs.Pairs.{value_of}
-use Rattle.card_forms.specs.Remarks.{noted}
+use Rattle.std.specs.{Prelude.IfOk, declared.alloc.AllocError.AllocError}
+use Rattle.card_forms.specs.{declared.pairs.Pair.Pair, Cards.form_id_of, Entries.entry_with}
+use Rattle.card_forms.specs.{Asking.Asks, Asking.IsCommandText, Pairs.value_of, Remarks.noted}
 use Rattle.outbox.specs.Items.{ItemsOf}
 use Rattle.table_views.specs.declared.around.PageContext.{PageContext}
-use Rattle.table_service.specs.declared.plan.RequestPlan.{RequestPlan}
+use Rattle.table_service.specs.{declared.plan.RequestPlan.RequestPlan, Taking.PlansEntries}
 use Rattle.table_service.specs.Plans.{PlansCommand, page_after, remark_in}
-use Rattle.table_service.specs.Taking.{PlansEntries}
 use Rattle.table_service.proofs.commanding.plan_command.Goals as goal
 
 module _ (around : PageContext) (q : ItemsOf) (pairs : List Pair) (id : ℕ) (text : List ℕ)
@@ -28,8 +22,7 @@ module _ (around : PageContext) (q : ItemsOf) (pairs : List Pair) (id : ℕ) (te
     asks = asks;
     plans = subst
         (λ (b : List ℕ).
-        PlansEntries q around b (entry_with id (noted (remark_in around) text) ∷ []) plan)
-        is plans;
+        PlansEntries q around b (entry_with id (noted (remark_in around) text) ∷ []) plan) is plans;
   })
   asked (Err error) plans = tt
 

@@ -1,4 +1,4 @@
-use Rattle.table_hall_views.specs.Refused.{faults_page}
+use Rattle.table_people_views.specs.Refused.{faults_page}
 use Rattle.table_service.specs.declared.plan.PageStatus.TheVariants as shown
 use Rattle.table_service.proofs.Looked.{page_shown}
 use Rattle.table_service.proofs.commanding.tell.Goals as goal

@@ -1,6 +1,5 @@
 use Rattle.std.proofs.Common.{◌==◌, rules, tests}
-use Rattle.std.specs.Prelude.{bytes_eq}
-use Rattle.std.proofs.lemmas.Iterator.Search.{any_from_yields_List}
+use Rattle.std.{specs.Prelude.bytes_eq, proofs.lemmas.Iterator.Search.any_from_yields_List}
 use Rattle.std.proofs.lemmas.Iterator.Splits.{YieldsList-from_slice_split}
 use Rattle.table_service.proofs.entering.has_word.Goals as goal
 

@@ -1,11 +1,9 @@
 use Rattle.std.proofs.Common.{◌≡◌, ◌∙◌, Bool, false, List, Result, Ok, Err, ap, codes, subst, sym}
-use Rattle.std.specs.Prelude.{IfOk}
-use Rattle.std.specs.declared.alloc.AllocError.{AllocError}
+use Rattle.std.specs.{Prelude.IfOk, declared.alloc.AllocError.AllocError}
 use Rattle.card_forms.specs.declared.pairs.Pair.{Pair}
 use Rattle.commands.specs.History.{History}
 use Rattle.outbox.specs.Items.{ItemsOf}
-use Rattle.table_views.specs.declared.around.PageContext.{PageContext}
-use Rattle.table_views.specs.Editions.{is_latest}
+use Rattle.table_views.specs.{declared.around.PageContext.PageContext, Editions.is_latest}
 use Rattle.table_views.specs.Logs.{accepted_in}
 use Rattle.texts.specs.declared.command.Command.{Command}
 use Rattle.table_service.specs.declared.plan.RequestPlan.{RequestPlan}
@@ -15,8 +13,7 @@ use Rattle.table_service.proofs.entering.plan_card.Goals as goal
 module _ (around : PageContext) (q : ItemsOf) (pairs : List Pair) where
   earlier : (accepted : List Command) → accepted ≡ accepted_in around.mirror.now
       → is_latest accepted ≡ false → (r : Result RequestPlan AllocError)
-      → IfOk r (RefusesWith around (codes "/") earlier_words)
-      → IfOk r (PlansCard around q pairs)
+      → IfOk r (RefusesWith around (codes "/") earlier_words) → IfOk r (PlansCard around q pairs)
   earlier accepted same not-so (Ok plan) refuses =
       subst (λ (b : Bool). PlansCardIf b around q pairs plan)
       (sym (ap is_latest (sym same) ∙ not-so)) refuses

@@ -1,8 +1,6 @@
-use Rattle.std.proofs.Common.{Option, subst, sym}
-use Rattle.std.specs.Prelude.{IfSome}
+use Rattle.std.{proofs.Common.Option, proofs.Common.subst, proofs.Common.sym, specs.Prelude.IfSome}
 use Rattle.texts.specs.declared.command.CardEntry.{CardEntry}
-use Rattle.table_service.specs.Taking.{IsFitCard}
-use Rattle.table_service.proofs.Fitting.{fits_card}
+use Rattle.table_service.{specs.Taking.IsFitCard, proofs.Fitting.fits_card}
 use Rattle.table_service.proofs.entries.fit_card.Goals as goal
 
 pub returns-in-Ok-clause-fit : goal.returns-in-Ok-clause-fit

@@ -1,7 +1,6 @@
 use Rattle.std.proofs.Common.{◌≡◌, ◌∙◌, ◌+◌, ◌<◌, ◌||◌, ℕ, Bool, true, false, List, String, ap}
 use Rattle.std.proofs.Common.{bytes_eq, drop, get_or, length, map, string_bytes, sym}
-use Rattle.table_service.specs.Gate.{is_host}
-use Rattle.table_service.proofs.Walks.{split}
+use Rattle.table_service.{specs.Gate.is_host, proofs.Walks.split}
 use Rattle.table_service.proofs.gate.is_host.Goals as goal
 
 module _ {Z : Type 0} (hosts : List (String Z)) (i : ℕ) (host : String Z) (value : List ℕ)
@@ -17,8 +16,7 @@ module _ {Z : Type 0} (hosts : List (String Z)) (i : ℕ) (host : String Z) (val
   here : b ≡ true → is_host (map string_bytes (drop i hosts)) value ≡ true
   here is-so = step ∙ ap (λ t. t || is_host (map string_bytes (drop (i + 1) hosts)) value) is-so
 
-  later : b ≡ false
-      → is_host (map string_bytes (drop (i + 1) hosts)) value
+  later : b ≡ false → is_host (map string_bytes (drop (i + 1) hosts)) value
       ≡ is_host (map string_bytes (drop i hosts)) value
   later is-not =
       sym (step ∙ ap (λ t. t || is_host (map string_bytes (drop (i + 1) hosts)) value) is-not)
@@ -27,8 +25,7 @@ pub loop-host-preserved : goal.loop-host-preserved
 loop-host-preserved c =
     later c.args.hosts.now c.loop-host.host-index c.host-item.result c.args.value.now
     c.loop-host-test.true c.host-item.is c.eq.result
-    (c.eq.ensures ∙ ap (λ t. bytes_eq t c.args.value.now) c.as_bytes.ensures.value)
-    c.if-eq.false
+    (c.eq.ensures ∙ ap (λ t. bytes_eq t c.args.value.now) c.as_bytes.ensures.value) c.if-eq.false
     ∙ c.loop-host.invariant
 
 pub returns-then-eq : goal.returns-then-eq
@@ -36,5 +33,4 @@ returns-then-eq c =
     sym (sym c.loop-host.invariant
     ∙ here c.args.hosts.now c.loop-host.host-index c.host-item.result c.args.value.now
     c.loop-host-test.true c.host-item.is c.eq.result
-    (c.eq.ensures ∙ ap (λ t. bytes_eq t c.args.value.now) c.as_bytes.ensures.value)
-    c.if-eq.true)
+    (c.eq.ensures ∙ ap (λ t. bytes_eq t c.args.value.now) c.as_bytes.ensures.value) c.if-eq.true)

@@ -1,6 +1,5 @@
 use Rattle.std.proofs.Common.{map}
-use Rattle.table_service.specs.Imports.{named}
-use Rattle.table_service.proofs.Looked.{file_carried}
+use Rattle.table_service.{specs.Imports.named, proofs.Looked.file_carried}
 use Rattle.table_service.proofs.looking.look_at_parts.Goals as goal
 
 pub returns-then-eq : goal.returns-then-eq

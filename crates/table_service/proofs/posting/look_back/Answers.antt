@@ -1,10 +1,8 @@
 use Rattle.std.proofs.Common.{◌≡◌, ℕ, List, Result, Ok, Err, codes, subst}
-use Rattle.std.specs.Prelude.{IfOk}
-use Rattle.std.specs.declared.alloc.AllocError.{AllocError}
+use Rattle.std.specs.{Prelude.IfOk, declared.alloc.AllocError.AllocError}
 use Rattle.card_forms.specs.Pairs.{value_of}
 use Rattle.table_views.specs.declared.around.PageContext.{PageContext}
-use Rattle.table_service.specs.declared.plan.RequestPlan.{RequestPlan}
-use Rattle.table_service.specs.Lists.{LooksAt}
+use Rattle.table_service.specs.{declared.plan.RequestPlan.RequestPlan, Lists.LooksAt}
 use Rattle.table_service.specs.Plans.{page_after}
 use Rattle.table_service.proofs.posting.look_back.Goals as goal
 

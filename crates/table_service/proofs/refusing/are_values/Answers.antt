@@ -1,9 +1,8 @@
 use Rattle.std.proofs.Common.{◌≡◌, List, [], ◌∷◌, refl, ◌∙◌}
 use Rattle.std.specs.Cmp.Lexicographic.{pointwise}
-use Rattle.attempts.specs.contracts.ValuePartialEq.TheImpl.{eq-value}
-use Rattle.attempts.specs.declared.Value.{Value}
-use Rattle.attempts.specs.declared.Value.TheVariants as value
+use Rattle.attempts.specs.{contracts.ValuePartialEq.TheImpl.eq-value, declared.Value.Value}
 use Rattle.commands.specs.Accepted.{is_value, are_values}
+use Rattle.attempts.specs.declared.Value.TheVariants as value
 use Rattle.table_service.proofs.refusing.are_values.Goals as goal
 
 one_is : (v w : Value) → eq-value.it v w ≡ is_value v w

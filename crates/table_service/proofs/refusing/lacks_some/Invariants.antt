@@ -1,6 +1,5 @@
 use Rattle.std.proofs.Common.{◌≡◌, suc, drop}
-use Rattle.commands.specs.Accepted.{has_outcome, scramble_of}
-use Rattle.commands.specs.model.Cards.{lacks_in}
+use Rattle.commands.specs.{Accepted.has_outcome, Accepted.scramble_of, model.Cards.lacks_in}
 use Rattle.table_service.proofs.refusing.lacks_some.Given as goal
 
 abbrev pub invariant-loop-at : goal.invariant-loop-at

@@ -15,8 +15,7 @@ returns-then-has_more c =
     (fits_by true c.has_more.result settings.format table.format c.cutoff.result table.cutoff
     c.deref.result.now (card_values scrambles card settings) c.has_more.ensures c.if-has_more.true
     (format_is card.id.event card.id.round c.args.meet.now.accepted (settings, table)
-    c.requires.opened)
-    c.cutoff.ensures.value (c.deref.ensures.value ∙ c.in_ok-values.ensures))
+    c.requires.opened) c.cutoff.ensures.value (c.deref.ensures.value ∙ c.in_ok-values.ensures))
 
 pub returns : goal.returns
 returns c =
@@ -28,8 +27,6 @@ returns c =
     (c.in_default.ensures ∙ ap (unfit_card_refusal card.id.event scrambles) c.as_slice.ensures)
     (sym c.is_closed.ensures ∙ c.if-is_closed.false) c.in_default-seen_refusal.ensures
     (fits_by false c.has_more.result settings.format table.format c.cutoff.result table.cutoff
-    c.deref.result.now (card_values scrambles card settings) c.has_more.ensures
-    c.if-has_more.false
+    c.deref.result.now (card_values scrambles card settings) c.has_more.ensures c.if-has_more.false
     (format_is card.id.event card.id.round c.args.meet.now.accepted (settings, table)
-    c.requires.opened)
-    c.cutoff.ensures.value (c.deref.ensures.value ∙ c.in_ok-values.ensures))
+    c.requires.opened) c.cutoff.ensures.value (c.deref.ensures.value ∙ c.in_ok-values.ensures))

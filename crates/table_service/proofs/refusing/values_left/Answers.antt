@@ -20,9 +20,7 @@ returns c =
     let long : length c.as_slice-at-end.result.now ≡ length c.args.card.now.now =
     ap length c.as_slice-at-end.ensures in
     sym (append-nil c.loop-at.values.items)
-    ∙ ap (λ (vs : List Value). c.loop-at.values.items ++ vs)
-    (sym
-    (values_past
+    ∙ ap (λ (vs : List Value). c.loop-at.values.items ++ vs) (sym (values_past
     (counts_in c.args.settings (scramble_of c.args.meet.now.accepted id.event id.round)) _
     c.loop-at.at c.args.card.now.now _ (omega arith)))
     ∙ c.loop-at.invariant

@@ -10,8 +10,7 @@ four : (old one two three last : List Header) (a b c d : Header) → one ≡ old
     → last ≡ old ++ a ∷ b ∷ c ∷ d ∷ []
 four old one two three last a b c d e1 e2 e3 e4 =
     e4
-    ∙ ap (λ (t : List Header). t ++ d ∷ [])
-    (e3
+    ∙ ap (λ (t : List Header). t ++ d ∷ []) (e3
     ∙ ap (λ (t : List Header). t ++ c ∷ []) (e2 ∙ ap (λ (t : List Header). t ++ b ∷ []) e1))
     ∙ simp append_assoc
 
@@ -19,8 +18,7 @@ pub returns-clause-headers : goal.returns-clause-headers
 returns-clause-headers c =
     let old = fields_of c.args.response.now in
     let last = fields_of c.add-4.new.response in
-    elim c.add-4.result as
-    (λ r. OnOk r (last ≡ fields_of c.add-3.new.response ++ (
+    elim c.add-4.result as (λ r. OnOk r (last ≡ fields_of c.add-3.new.response ++ (
       codes "cache-control",
       codes "no-store",
     ) ∷ []) → OnOk r (last ≡ old ++ security)) [

@@ -1,6 +1,5 @@
 use Rattle.std.proofs.Common.{◌≡◌, ◌≤◌, drop, length}
-use Rattle.outbox.specs.Items.{ItemsOf}
-use Rattle.outbox.specs.Outboxes.{with_list}
+use Rattle.outbox.specs.{Items.ItemsOf, Outboxes.with_list}
 use Rattle.table_service.specs.Services.{CannotTake, StaysKept, TakesAll}
 use Rattle.table_service.proofs.service.take_all.Given as goal
 

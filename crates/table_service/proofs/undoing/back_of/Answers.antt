@@ -1,12 +1,10 @@
 use Rattle.std.proofs.Common.{◌∙◌, arith, length, sym}
-use Rattle.table_service.specs.Undoing.{back_at}
-use Rattle.table_service.proofs.Undone.{back_more, back_none}
+use Rattle.table_service.{specs.Undoing.back_at, proofs.Undone.back_more, proofs.Undone.back_none}
 use Rattle.table_service.proofs.undoing.back_of.Goals as goal
 
 pub returns-in_default : goal.returns-in_default
 returns-in_default c =
-    sym
-    (back_none (back_at c.args.unit c.args.limit c.args.left.now c.args.was.now)
+    sym (back_none (back_at c.args.unit c.args.limit c.args.left.now c.args.was.now)
     c.loop-place.place (length c.args.was.now) c.loop-place.now.items _
     c.loop-place.invariant.back (omega arith) (sym c.back_at.ensures ∙ c.in_default.is))
 

@@ -1,7 +1,6 @@
 use Rattle.std.proofs.Common.{◌≡◌, ◌++◌, length}
 use Rattle.std.specs.Option.{option_map}
-use Rattle.table_service.specs.Undoing.{back_at, back_of}
-use Rattle.table_service.proofs.Undone.{back_from}
+use Rattle.table_service.{specs.Undoing.back_at, specs.Undoing.back_of, proofs.Undone.back_from}
 use Rattle.table_service.proofs.undoing.back_of.Given as goal
 
 abbrev pub invariant-loop-place : goal.invariant-loop-place

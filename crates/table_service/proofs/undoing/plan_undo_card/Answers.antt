@@ -1,17 +1,13 @@
 use Rattle.std.proofs.Common.{◌≡◌, ◌∙◌, ℕ, List, Option, None, Some, Result, Ok, Err, ap, get_or}
 use Rattle.std.proofs.Common.{subst, sym}
-use Rattle.std.specs.Prelude.{IfOk}
-use Rattle.std.specs.declared.alloc.AllocError.{AllocError}
+use Rattle.std.specs.{Prelude.IfOk, declared.alloc.AllocError.AllocError}
 use Rattle.acceptor.specs.declared.entry.Entry.{Entry}
 use Rattle.commands.specs.History.{History}
 use Rattle.outbox.specs.Items.{ItemsOf}
-use Rattle.table_views.specs.declared.around.PageContext.{PageContext}
-use Rattle.table_views.specs.Logs.{accepted_in}
-use Rattle.texts.specs.declared.command.CardEntry.{CardEntry}
-use Rattle.texts.specs.declared.command.Command.{Command}
-use Rattle.table_service.specs.declared.plan.RequestPlan.{RequestPlan}
+use Rattle.table_views.specs.{declared.around.PageContext.PageContext, Logs.accepted_in}
+use Rattle.texts.specs.declared.command.{CardEntry.CardEntry, Command.Command}
+use Rattle.table_service.specs.{declared.plan.RequestPlan.RequestPlan, Taking.has_room}
 use Rattle.table_service.specs.Plans.{RefusesWith, cards_place}
-use Rattle.table_service.specs.Taking.{has_room}
 use Rattle.table_service.specs.Undoing.{PlansUndoCard, PlansUndoEntry, undone_entry, untyped_words}
 use Rattle.table_service.proofs.undoing.plan_undo_card.Goals as goal
 
@@ -26,8 +22,7 @@ module _ (around : PageContext) (q : ItemsOf) (of : ℕ) (card : CardEntry) wher
       subst (λ (o : Option Entry). PlansUndoEntry (has_room q 1) around of card.id o plan)
       (sym none ∙ is
       ∙ ap (λ (cs : List Command). undone_entry cs id card around.remark.now) same
-      ∙ ap
-      (λ (n : ℕ). undone_entry (accepted_in around.mirror.now) n card around.remark.now) id_is)
+      ∙ ap (λ (n : ℕ). undone_entry (accepted_in around.mirror.now) n card around.remark.now) id_is)
       (subst (λ (back : List ℕ). RefusesWith around back untyped_words plan) at refuses)
   untyped accepted same id id_is entry is none place at (Err error) refuses = tt
 

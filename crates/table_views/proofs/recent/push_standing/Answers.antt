@@ -1,8 +1,6 @@
-use Rattle.std.proofs.Common.{◌≡◌, ◌++◌, ◌∙◌, List, [], ◌∷◌, ℕ, false, nat_eq, ap, codes}
-use Rattle.std.proofs.Common.{flat_map, length, refl, sym}
-use Rattle.std.proofs.lemmas.Result.{on_ok_weaker}
-use Rattle.attempts.specs.declared.Unit.{Unit as Measure}
-use Rattle.attempts.specs.declared.Value.{Value}
+use Rattle.std.proofs.Common.{◌≡◌, ◌++◌, ◌∙◌, List, [], ◌∷◌, ℕ, false, nat_eq, ap, codes, flat_map}
+use Rattle.std.proofs.{Common.length, Common.refl, Common.sym, lemmas.Result.on_ok_weaker}
+use Rattle.attempts.specs.declared.{Unit.Unit as Measure, Value.Value}
 use Rattle.markup.proofs.board_page.Steps.{two_parts, when_ok}
 use Rattle.table_views.specs.Recent.{standing_words, value_words}
 use Rattle.table_views.proofs.recent.push_standing.Goals as goal
@@ -17,8 +15,7 @@ pub returns : goal.returns
 returns c =
     let out = c.args.out.now.items in
     let values = c.args.values.now in
-    on_ok_weaker c.extend_from_slice-2.result
-    (λ whole.
+    on_ok_weaker c.extend_from_slice-2.result (λ whole.
     two_parts out (flat_map (value_words c.args.unit) values) (codes "on record now") _ _
     c.in_ok-push_values.ensures whole
     ∙ ap (λ (words : List ℕ). out ++ words)

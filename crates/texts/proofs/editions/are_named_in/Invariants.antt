@@ -1,7 +1,6 @@
 use Rattle.std.proofs.Common.{◌≡◌, drop, map}
 use Rattle.std.specs.List.{list_all}
-use Rattle.texts.specs.Editions.{is_named_in}
-use Rattle.texts.specs.Parts.{lent}
+use Rattle.texts.specs.{Editions.is_named_in, Parts.lent}
 use Rattle.texts.proofs.editions.are_named_in.Given as goal
 
 -- none of the names so far is not spelled

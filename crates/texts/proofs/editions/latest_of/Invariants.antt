@@ -1,7 +1,6 @@
 use Rattle.std.proofs.Common.{◌≡◌, drop, map}
 use Rattle.std.specs.Prelude.{fold}
-use Rattle.texts.specs.Editions.{later_by}
-use Rattle.texts.specs.Parts.{lent}
+use Rattle.texts.specs.{Editions.later_by, Parts.lent}
 use Rattle.texts.proofs.editions.latest_of.Given as goal
 
 -- with the later values it comes to all of them

@@ -1,6 +1,5 @@
 use Rattle.std.proofs.Common.{◌≡◌, ◌<◌, ◌∙◌, ◌-◌, false, List, ℕ, length, take, drop, codes}
-use Rattle.std.proofs.Common.{bytes_eq}
-use Rattle.std.proofs.Common.{arith, subst, length-drop, rules}
+use Rattle.std.proofs.Common.{bytes_eq, arith, subst, length-drop, rules}
 use Rattle.std.proofs.lemmas.List.{take_all}
 use Rattle.texts.proofs.Remarks.{no_mark_there}
 use Rattle.texts.proofs.fields.cut_remark.Goals as goal

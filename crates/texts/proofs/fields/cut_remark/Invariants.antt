@@ -1,6 +1,5 @@
 use Rattle.std.proofs.Common.{◌≡◌, drop, take}
-use Rattle.texts.specs.Fields.{cut_remark}
-use Rattle.texts.proofs.Remarks.{with_front}
+use Rattle.texts.{specs.Fields.cut_remark, proofs.Remarks.with_front}
 use Rattle.texts.proofs.fields.cut_remark.Given as goal
 
 -- no ` # ` begins before the place

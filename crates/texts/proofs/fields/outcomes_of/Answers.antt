@@ -1,6 +1,5 @@
-use Rattle.std.proofs.Common.{◌≡◌, ◌≤◌, [], ◌∷◌, ◌++◌, ◌∙◌, map, length, Some, None, ap}
-use Rattle.std.proofs.Common.{arith, rules, length-append}
-use Rattle.std.specs.Option.{option_copied}
+use Rattle.std.proofs.Common.{◌≡◌, ◌≤◌, [], ◌∷◌, ◌++◌, ◌∙◌, map, length, Some, None, ap, arith}
+use Rattle.std.{proofs.Common.rules, proofs.Common.length-append, specs.Option.option_copied}
 use Rattle.texts.specs.Fields.{all_of, stays_or_of}
 use Rattle.texts.proofs.Splits.{front_none, list_ends, list_full, list_more, list_refused, parts}
 use Rattle.texts.proofs.fields.outcomes_of.Goals as goal

@@ -1,8 +1,7 @@
 use Rattle.std.proofs.Common.{◌≡◌, ◌≤◌, false, codes, bytes_eq, sym, [], ◌∷◌, ◌++◌, ◌∙◌, map}
 use Rattle.std.proofs.Common.{length, Some, None, ap, arith, rules, length-append}
 use Rattle.std.specs.Option.{option_copied}
-use Rattle.texts.specs.Fields.{all_of, counted_of}
-use Rattle.texts.proofs.CardSpellings.{was_is}
+use Rattle.texts.{specs.Fields.all_of, specs.Fields.counted_of, proofs.CardSpellings.was_is}
 use Rattle.texts.proofs.Splits.{front_none, list_ends, list_full, list_more, list_refused, parts}
 use Rattle.texts.proofs.fields.was_of.Goals as goal
 

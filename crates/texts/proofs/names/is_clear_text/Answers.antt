@@ -1,8 +1,6 @@
 use Rattle.std.proofs.Common.{◌≡◌, Bool, true, false, ◌&&◌, refl, ◌∙◌, rules, tests}
-use Rattle.std.specs.List.{list_all}
-use Rattle.std.specs.Str.{is_utf8, chars}
-use Rattle.std.proofs.lemmas.Iterator.{YieldsList-from_chars}
-use Rattle.std.proofs.lemmas.Iterator.Search.{all_from_yields_List}
+use Rattle.std.specs.{List.list_all, Str.is_utf8, Str.chars}
+use Rattle.std.proofs.lemmas.Iterator.{YieldsList-from_chars, Search.all_from_yields_List}
 use Rattle.std.proofs.lemmas.Str.{is_utf8-from_IsUtf8, IsUtf8-from_is_utf8}
 use Rattle.texts.specs.Names.{is_name_character}
 use Rattle.texts.proofs.names.is_clear_text.Goals as goal

@@ -1,6 +1,5 @@
 use Rattle.std.proofs.Common.{◌≡◌, Bool, true, false, List, ℕ, Result, Ok, Err, refl, sym, ◌∙◌}
-use Rattle.std.specs.Result.{MatchResult, is_ok}
-use Rattle.std.specs.Str.{IsUtf8, is_utf8}
+use Rattle.std.specs.{Result.MatchResult, Result.is_ok, Str.IsUtf8, Str.is_utf8}
 use Rattle.std.proofs.lemmas.Str.{is_utf8-from_IsUtf8, IsUtf8-from_is_utf8}
 use Rattle.texts.proofs.names.is_text.Goals as goal
 

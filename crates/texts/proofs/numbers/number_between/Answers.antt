@@ -1,7 +1,6 @@
 use Rattle.std.proofs.Common.{◌≡◌, Some, None, rules, tests}
 use Rattle.texts.specs.Fields.{number_between}
-use Rattle.texts.proofs.Numerals.{readings}
-use Rattle.texts.proofs.FieldSpellings.{number_spelled_alone}
+use Rattle.texts.proofs.{Numerals.readings, FieldSpellings.number_spelled_alone}
 use Rattle.texts.proofs.numbers.number_between.Goals as goal
 
 pub returns-then-not-is_numeral-clause-spelled : goal.returns-then-not-is_numeral-clause-spelled

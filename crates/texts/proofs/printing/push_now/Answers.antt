@@ -1,7 +1,6 @@
 use Rattle.std.proofs.Common.{◌≡◌, [], ◌∷◌, ◌++◌, ◌∙◌, map, drop, sym, ap, append_assoc, rules}
 use Rattle.std.proofs.lemmas.List.{append-nil, drop_all}
-use Rattle.texts.specs.Spelling.{stays_or_text}
-use Rattle.texts.proofs.Splits.{behind_each, joined}
+use Rattle.texts.{specs.Spelling.stays_or_text, proofs.Splits.behind_each, proofs.Splits.joined}
 use Rattle.texts.proofs.printing.push_now.Goals as goal
 
 pub returns : goal.returns

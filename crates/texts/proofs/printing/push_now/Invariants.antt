@@ -1,6 +1,5 @@
 use Rattle.std.proofs.Common.{◌≡◌, ◌++◌, drop, map}
-use Rattle.texts.specs.Spelling.{stays_or_text}
-use Rattle.texts.proofs.Splits.{behind_each}
+use Rattle.texts.{specs.Spelling.stays_or_text, proofs.Splits.behind_each}
 use Rattle.texts.proofs.printing.push_now.Given as goal
 
 -- with the later outcomes it comes to all of them

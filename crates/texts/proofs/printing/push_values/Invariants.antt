@@ -1,6 +1,5 @@
 use Rattle.std.proofs.Common.{◌≡◌, ◌++◌, drop, map}
-use Rattle.texts.specs.Parts.{lent}
-use Rattle.texts.specs.Spelling.{values_text}
+use Rattle.texts.specs.{Parts.lent, Spelling.values_text}
 use Rattle.texts.proofs.printing.push_values.Given as goal
 
 -- with the later values it comes to all of them

@@ -1,6 +1,5 @@
 use Rattle.std.proofs.Common.{◌≡◌, ◌++◌, drop, map}
-use Rattle.texts.specs.Spelling.{counted_text}
-use Rattle.texts.proofs.Splits.{behind_each}
+use Rattle.texts.{specs.Spelling.counted_text, proofs.Splits.behind_each}
 use Rattle.texts.proofs.printing.push_was.Given as goal
 
 -- with the later values it comes to all of them

@@ -1,10 +1,8 @@
 use Rattle.std.proofs.Common.{◌≡◌, List, Some, Err, rules}
 use Rattle.std.specs.Option.{option_copied}
 use Rattle.arrayvec.specs.declared.array_vec.ArrayVec.{ArrayVec}
-use Rattle.texts.specs.declared.value.FieldValue.{FieldValue}
-use Rattle.texts.specs.Table.{plain, row_named}
-use Rattle.texts.proofs.Rows.{named_row}
-use Rattle.texts.proofs.Words.{gives_none, gives_remark, gives_values}
+use Rattle.texts.specs.{declared.value.FieldValue.FieldValue, Table.plain, Table.row_named}
+use Rattle.texts.proofs.{Rows.named_row, Words.gives_none, Words.gives_remark, Words.gives_values}
 use Rattle.texts.proofs.reading.command_of_word.Goals as goal
 
 pub values_of-requires-clause-few : goal.values_of-requires-clause-few

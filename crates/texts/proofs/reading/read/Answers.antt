@@ -1,9 +1,8 @@
 use Rattle.std.proofs.Common.{Err, sym, ◌∙◌}
-use Rattle.texts.specs.Fields.{cut}
-use Rattle.texts.specs.Reading.{kept_field}
-use Rattle.texts.specs.declared.reading.CommandFault.TheVariants as fault
+use Rattle.texts.specs.{Fields.cut, Reading.kept_field}
 use Rattle.texts.proofs.Words.{gives_too_long, gives_word, gives_found, gives_only}
 use Rattle.texts.proofs.Faults.{gives_too_long_alone, gives_not_a_command}
+use Rattle.texts.specs.declared.reading.CommandFault.TheVariants as fault
 use Rattle.texts.proofs.reading.read.Goals as goal
 
 pub returns-then-is_too_long-clause-value : goal.returns-then-is_too_long-clause-value

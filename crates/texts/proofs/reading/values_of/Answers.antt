@@ -1,8 +1,7 @@
 use Rattle.std.proofs.Common.{◌≡◌, ◌<◌, Err, List, length, arith, rules, drop-cons}
 use Rattle.std.specs.Option.{option_copied}
 use Rattle.arrayvec.specs.declared.array_vec.ArrayVec.{ArrayVec}
-use Rattle.texts.specs.declared.value.FieldValue.{FieldValue}
-use Rattle.texts.proofs.Memory.{stops}
+use Rattle.texts.{specs.declared.value.FieldValue.FieldValue, proofs.Memory.stops}
 use Rattle.texts.proofs.reading.values_of.Goals as goal
 
 pub returns-in_err-next : goal.returns-in_err-next

@@ -1,7 +1,6 @@
 use Rattle.std.proofs.Common.{◌≡◌, ◌+◌, drop, length}
 use Rattle.std.specs.Option.{option_copied}
-use Rattle.texts.specs.Reading.{values_of}
-use Rattle.texts.specs.model.Returned.{after}
+use Rattle.texts.specs.{Reading.values_of, model.Returned.after}
 use Rattle.texts.proofs.reading.values_of.Given as goal
 
 -- what the fields so far are is in front of what the later ones are

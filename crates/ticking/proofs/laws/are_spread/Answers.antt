@@ -1,5 +1,4 @@
-use Rattle.ticking.proofs.Kept.{reached_ticker}
-use Rattle.ticking.proofs.Spread.{due_apart}
+use Rattle.ticking.proofs.{Kept.reached_ticker, Spread.due_apart}
 use Rattle.ticking.proofs.laws.are_spread.Goals as goal
 
 pub returns : goal.returns

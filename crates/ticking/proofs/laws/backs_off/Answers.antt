@@ -1,5 +1,4 @@
-use Rattle.ticking.proofs.Kept.{reached_ticker}
-use Rattle.ticking.proofs.Ticks.{backed_off}
+use Rattle.ticking.proofs.{Kept.reached_ticker, Ticks.backed_off}
 use Rattle.ticking.proofs.laws.backs_off.Goals as goal
 
 pub returns : goal.returns

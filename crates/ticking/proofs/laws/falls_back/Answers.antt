@@ -1,5 +1,4 @@
-use Rattle.ticking.proofs.Kept.{reached_ticker}
-use Rattle.ticking.proofs.Ticks.{fallen_back}
+use Rattle.ticking.proofs.{Kept.reached_ticker, Ticks.fallen_back}
 use Rattle.ticking.proofs.laws.falls_back.Goals as goal
 
 pub returns : goal.returns

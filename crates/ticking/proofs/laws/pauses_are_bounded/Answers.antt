@@ -1,5 +1,4 @@
-use Rattle.ticking.proofs.Pauses.{bounded}
-use Rattle.ticking.proofs.Kept.{reached_ticker}
+use Rattle.ticking.proofs.{Pauses.bounded, Kept.reached_ticker}
 use Rattle.ticking.proofs.laws.pauses_are_bounded.Goals as goal
 
 pub returns : goal.returns

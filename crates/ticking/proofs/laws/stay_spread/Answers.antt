@@ -1,5 +1,4 @@
-use Rattle.ticking.proofs.Kept.{reached_ticker}
-use Rattle.ticking.proofs.Rows.{spread_rows}
+use Rattle.ticking.proofs.{Kept.reached_ticker, Rows.spread_rows}
 use Rattle.ticking.proofs.laws.stay_spread.Goals as goal
 
 pub returns : goal.returns

@@ -1,6 +1,5 @@
 use Rattle.std.proofs.Common.{[], refl, arith}
-use Rattle.ticking.proofs.Kept.{reached_ticker}
-use Rattle.ticking.proofs.Still.{ticks_where_nothing}
+use Rattle.ticking.proofs.{Kept.reached_ticker, Still.ticks_where_nothing}
 use Rattle.ticking.specs.Worked.{worked}
 use Rattle.ticking.proofs.laws.ticks_where_nothing_happens.Goals as goal
 

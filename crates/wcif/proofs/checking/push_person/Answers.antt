@@ -1,7 +1,6 @@
 use Rattle.std.proofs.Common.{◌∙◌, sym}
 use Rattle.serde_json.specs.View.{view}
-use Rattle.wcif.proofs.Named.{AreNames-other}
-use Rattle.wcif.proofs.Numbered.{AreNumbers-other}
+use Rattle.wcif.proofs.Numbered.{AreNames-other, AreNumbers-other}
 use Rattle.wcif.proofs.checking.push_person.Goals as goal
 
 pub returns-then-not-is_accepted-clause-kept : goal.returns-then-not-is_accepted-clause-kept

@@ -1,18 +1,15 @@
 use Rattle.std.proofs.Common.{◌∙◌, ◌<◌, ◌++◌, ◌∷◌, [], sym, ap, arith, map, take, subst, length}
 use Rattle.std.proofs.Common.{◌+◌}
 use Rattle.serde_json.specs.View.{view}
-use Rattle.wcif.specs.Faults.{person_faults}
-use Rattle.wcif.specs.model.Kept.{AreKept}
-use Rattle.wcif.proofs.Counts.{viewed_more}
-use Rattle.wcif.proofs.Tellings.{adds_next, adds_none, in_front}
+use Rattle.wcif.{specs.Faults.person_faults, specs.model.Kept.AreKept, proofs.Numbered.viewed_more}
+use Rattle.wcif.proofs.Listed.{adds_next, adds_none, in_front}
 use Rattle.wcif.proofs.checking.push_persons.Goals as goal
 
 pub loop-index-init : goal.loop-index-init
 loop-index-init c = record {
   faults =
       adds_none (person_faults c.args.how (map view c.args.events.now) (map view
-      c.args.persons.now))
-      c.args.faults.now.items;
+      c.args.persons.now)) c.args.faults.now.items;
   kept = c.in_ok-people.ensures c.args.how;
 }
 
@@ -29,8 +26,7 @@ loop-index-preserved c =
           (person_faults c.args.how (map view c.args.events.now) (map view c.args.persons.now))
           c.args.persons.now c.loop-index.index person c.args.faults.now.items
           c.loop-index.faults.items c.push_person.new.faults.items within c.index-persons-index.is
-          c.loop-index.invariant.faults
-          (c.in_ok-push_person.ensures.faults everyone earlier kept
+          c.loop-index.invariant.faults (c.in_ok-push_person.ensures.faults everyone earlier kept
           (ap (λ n. n + 1) (sym (in_front c.args.persons.now c.loop-index.index within))));
       kept =
           subst (λ front. AreKept c.args.how everyone front c.push_person.new.people)

@@ -1,7 +1,6 @@
 use Rattle.std.proofs.Common.{◌≡◌, ◌++◌, map, take}
 use Rattle.serde_json.specs.View.{view}
-use Rattle.wcif.specs.Persons.{id_faults}
-use Rattle.wcif.specs.Told.{told}
+use Rattle.wcif.specs.{Persons.id_faults, Told.told}
 use Rattle.wcif.proofs.entries.push_id_faults.Given as goal
 
 abbrev pub invariant-loop-index : goal.invariant-loop-index

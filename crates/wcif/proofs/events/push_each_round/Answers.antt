@@ -1,9 +1,8 @@
 use Rattle.std.proofs.Common.{ap, sym, ◌∙◌, ◌++◌, ◌+◌, ◌<◌, ℕ, arith, map, length}
 use Rattle.serde_json.specs.View.{view}
-use Rattle.wcif.specs.declared.fault.CompetitionFault.TheVariants.{Round}
-use Rattle.wcif.specs.Events.{each_round}
+use Rattle.wcif.specs.{declared.fault.CompetitionFault.TheVariants.Round, Events.each_round}
 use Rattle.wcif.specs.Rounds.{round_faults}
-use Rattle.wcif.proofs.Tellings.{adds_next, adds_none, in_front}
+use Rattle.wcif.proofs.Listed.{adds_next, adds_none, in_front}
 use Rattle.wcif.proofs.events.push_each_round.Goals as goal
 
 pub loop-index-init : goal.loop-index-init
@@ -17,11 +16,8 @@ loop-index-preserved c =
     c.push_round.new.faults.items within c.index-rounds-index.is c.loop-index.invariant
     (c.in_ok-push_round.ensures
     ∙ ap
-    (λ found. c.loop-index.faults.items
-    ++ map (Round c.args.event (c.loop-index.index + 1)) found)
+    (λ found. c.loop-index.faults.items ++ map (Round c.args.event (c.loop-index.index + 1)) found)
     (c.deref.ensures.value ∙ c.in_ok-found.ensures)
-    ∙ ap
-    (λ (n : ℕ). c.loop-index.faults.items
-    ++ map (Round c.args.event (n + 1))
+    ∙ ap (λ (n : ℕ). c.loop-index.faults.items ++ map (Round c.args.event (n + 1))
     (round_faults c.args.how c.args.event (n + 1) (view c.index-rounds-index.result)))
     (sym (in_front c.args.rounds.now c.loop-index.index within)))

@@ -1,7 +1,6 @@
 use Rattle.std.proofs.Common.{◌≡◌, ◌++◌, map, take}
 use Rattle.serde_json.specs.View.{view}
-use Rattle.wcif.specs.Events.{each_round}
-use Rattle.wcif.specs.Told.{told}
+use Rattle.wcif.specs.{Events.each_round, Told.told}
 use Rattle.wcif.proofs.events.push_each_round.Given as goal
 
 abbrev pub invariant-loop-index : goal.invariant-loop-index

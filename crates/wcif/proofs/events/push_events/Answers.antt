@@ -1,7 +1,6 @@
 use Rattle.std.proofs.Common.{arith, map}
 use Rattle.serde_json.specs.View.{view}
-use Rattle.wcif.specs.Events.{event_faults}
-use Rattle.wcif.proofs.Tellings.{adds_next, adds_none}
+use Rattle.wcif.{specs.Events.event_faults, proofs.Listed.adds_next, proofs.Listed.adds_none}
 use Rattle.wcif.proofs.events.push_events.Goals as goal
 
 pub loop-index-init : goal.loop-index-init

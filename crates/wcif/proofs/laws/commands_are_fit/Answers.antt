@@ -1,4 +1,4 @@
-use Rattle.wcif.proofs.FitCommands.{fit}
+use Rattle.wcif.proofs.Together.{fit}
 use Rattle.wcif.proofs.laws.commands_are_fit.Goals as goal
 
 pub returns : goal.returns

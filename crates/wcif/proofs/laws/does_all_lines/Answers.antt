@@ -1,4 +1,4 @@
-use Rattle.wcif.proofs.LinesDone.{does_all}
+use Rattle.wcif.proofs.Lines.{does_all}
 use Rattle.wcif.proofs.laws.does_all_lines.Goals as goal
 
 pub returns : goal.returns

@@ -1,7 +1,7 @@
 use Rattle.std.proofs.Common.{◌-◌, ◌∙◌, sym, ap, arith, nat_le}
 use Rattle.serde_json.specs.Data.{items_depth, members_depth}
 use Rattle.serde_json.specs.View.{items_view, members_view}
-use Rattle.wcif.proofs.Nested.{array_depth, object_depth, above_max, within_max, at_item}
+use Rattle.wcif.proofs.Listed.{array_depth, object_depth, above_max, within_max, at_item}
 use Rattle.wcif.proofs.nesting.+nests_within.Goals as goal
 
 pub loop-item-init : goal.loop-item-init
@@ -12,8 +12,7 @@ loop-item-init t c =
 
 pub returns-then-not-nests_within : goal.returns-then-not-nests_within
 returns-then-not-nests_within t c =
-    sym
-    (c.loop-item.invariant
+    sym (c.loop-item.invariant
     ∙ at_item c.as_slice-item-items.result.now c.loop-item.item-index (c.args.levels - 1)
     c.item-item.result c.loop-item-test.true c.item-item.is
     ∙ above_max _ _ _ (sym c.nests_within.ensures ∙ c.if-not-nests_within.true))
@@ -33,8 +32,7 @@ loop-member-init t c =
 
 pub returns-then-not-nests_within-2 : goal.returns-then-not-nests_within-2
 returns-then-not-nests_within-2 t c =
-    sym
-    (c.loop-member.invariant
+    sym (c.loop-member.invariant
     ∙ ap (λ es. nat_le (members_depth (members_view es)) (c.args.levels - 1))
     c.in-Some.ensures.steps
     ∙ above_max _ _ _ (sym c.nests_within-in-loop-member.ensures ∙ c.if-not-nests_within-2.true))

@@ -1,6 +1,5 @@
 use Rattle.std.proofs.Common.{arith}
-use Rattle.wcif.specs.Commands.{entered}
-use Rattle.wcif.proofs.SetUp.{next_number, first_number}
+use Rattle.wcif.{specs.Commands.entered, proofs.Counting.next_number, proofs.Counting.first_number}
 use Rattle.wcif.proofs.setting_up.push_all_entries.Goals as goal
 
 pub loop-index-init : goal.loop-index-init

@@ -1,6 +1,6 @@
 use Rattle.std.proofs.Common.{arith}
 use Rattle.wcif.specs.Commands.{registered}
-use Rattle.wcif.proofs.SetUp.{next_number, first_number}
+use Rattle.wcif.proofs.Counting.{next_number, first_number}
 use Rattle.wcif.proofs.setting_up.push_registrations.Goals as goal
 
 pub loop-index-init : goal.loop-index-init

@@ -1,7 +1,6 @@
 use Rattle.std.proofs.Common.{◌≡◌, ◌++◌, map, flat_map, drop}
 use Rattle.json.specs.Value.{value_view}
-use Rattle.wcif_results.specs.Faults.{round_faults}
-use Rattle.wcif_results.specs.model.Opened.{held_view, round_view}
+use Rattle.wcif_results.specs.{Faults.round_faults, model.Opened.held_view, model.Opened.round_view}
 use Rattle.wcif_results.proofs.faults.faults_among.Given as goal
 
 -- the faults so far and those of what is left

@@ -1,8 +1,6 @@
 use Rattle.std.proofs.Common.{map, codes}
-use Rattle.wcif_results.specs.Filled.{each, filled_round}
-use Rattle.wcif_results.specs.model.Opened.{round_view}
-use Rattle.wcif_results.proofs.Adding.{one_more}
-use Rattle.wcif_results.proofs.Left.{members_left, member_numbers}
+use Rattle.wcif_results.specs.{Filled.each, Filled.filled_round, model.Opened.round_view}
+use Rattle.wcif_results.proofs.Adding.{one_more, members_left, member_numbers}
 use Rattle.wcif_results.proofs.filling.write_event.Goals as goal
 
 pub write_event_member-requires : goal.write_event_member-requires

@@ -1,8 +1,6 @@
 use Rattle.std.proofs.Common.{map, codes}
-use Rattle.wcif_results.specs.Filled.{each, filled_event}
-use Rattle.wcif_results.specs.model.Opened.{round_view}
-use Rattle.wcif_results.proofs.Adding.{one_more}
-use Rattle.wcif_results.proofs.Left.{members_left, member_numbers}
+use Rattle.wcif_results.specs.{Filled.each, Filled.filled_event, model.Opened.round_view}
+use Rattle.wcif_results.proofs.Adding.{one_more, members_left, member_numbers}
 use Rattle.wcif_results.proofs.filling.write_file.Goals as goal
 
 pub write_file_member-requires : goal.write_file_member-requires

@@ -1,9 +1,7 @@
 use Rattle.std.proofs.Common.{map, drop, codes}
-use Rattle.json.specs.Tree.{members_tokens, MembersHaveNumbers}
-use Rattle.json.specs.Value.{members_view}
+use Rattle.json.specs.{Tree.members_tokens, Tree.MembersHaveNumbers, Value.members_view}
 use Rattle.wcif_results.specs.Filled.{each, members_with, filled_event}
-use Rattle.wcif_results.specs.model.Opened.{round_view}
-use Rattle.wcif_results.proofs.Adding.{Leads}
+use Rattle.wcif_results.{specs.model.Opened.round_view, proofs.Adding.Leads}
 use Rattle.wcif_results.proofs.filling.write_file.Given as goal
 
 abbrev pub invariant-loop-member : goal.invariant-loop-member

@@ -1,4 +1,4 @@
-use Rattle.wcif_results.proofs.Staying.{others_stay}
+use Rattle.wcif_results.proofs.FilledRounds.{others_stay}
 use Rattle.wcif_results.proofs.laws.others_stay.Goals as goal
 
 pub returns : goal.returns

@@ -1,6 +1,6 @@
 use Rattle.std.proofs.Common.{refl}
 use Rattle.wcif_results.specs.MeetRounds.{event_rounds, meet_rounds}
-use Rattle.wcif_results.proofs.Left.{lists_of, lists_done}
+use Rattle.wcif_results.proofs.Adding.{lists_of, lists_done}
 use Rattle.wcif_results.proofs.meet_rounds.meet_rounds.Goals as goal
 
 pub loop-event-preserved : goal.loop-event-preserved

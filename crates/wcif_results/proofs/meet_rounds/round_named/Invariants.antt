@@ -1,6 +1,5 @@
 use Rattle.std.proofs.Common.{◌≡◌, map, drop}
-use Rattle.wcif_results.specs.MeetRounds.{round_named}
-use Rattle.wcif_results.specs.model.Opened.{round_view}
+use Rattle.wcif_results.specs.{MeetRounds.round_named, model.Opened.round_view}
 use Rattle.wcif_results.proofs.meet_rounds.round_named.Given as goal
 
 -- the answer is that of what is left

@@ -1,6 +1,6 @@
 use Rattle.std.proofs.Common.{map, ap, ◌∙◌, sym}
 use Rattle.json.specs.Value.{value_view}
-use Rattle.wcif_results.proofs.ListsFound.{list_found}
+use Rattle.wcif_results.proofs.FilledRounds.{list_found}
 use Rattle.wcif_results.proofs.reading.list_under.Goals as goal
 
 pub returns-in-Array : goal.returns-in-Array

@@ -1,7 +1,6 @@
 use Rattle.std.proofs.Common.{◌≡◌, ◌++◌, map, drop}
 use Rattle.json.specs.Value.{value_view}
-use Rattle.wcif_results.specs.Faults.{held}
-use Rattle.wcif_results.specs.model.Opened.{held_view}
+use Rattle.wcif_results.specs.{Faults.held, model.Opened.held_view}
 use Rattle.wcif_results.proofs.reading.push_rounds.Given as goal
 
 -- the rounds so far and those of what is left

@@ -1,6 +1,5 @@
 use Rattle.std.proofs.Common.{◌≡◌, map, drop}
-use Rattle.wcif_results.specs.Faults.{round_with_id}
-use Rattle.wcif_results.specs.model.Opened.{held_view}
+use Rattle.wcif_results.specs.{Faults.round_with_id, model.Opened.held_view}
 use Rattle.wcif_results.proofs.reading.round_with_id.Given as goal
 
 -- the answer is that of what is left

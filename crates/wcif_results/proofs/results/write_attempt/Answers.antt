@@ -3,8 +3,7 @@ use Rattle.wcif_results.proofs.results.write_attempt.Goals as goal
 
 pub returns : goal.returns
 returns c =
-    on_ok c.end_object.result
-    (λ last. then (wrote c.in_ok-begin_object.ensures) (then (wrote c.in_ok-key.ensures)
-    (then c.in_ok-write_value.ensures (then (wrote c.in_ok-key-2.ensures)
-    (then (wrote c.in_ok-null.ensures) last)))))
+    on_ok c.end_object.result (λ last. then (wrote c.in_ok-begin_object.ensures)
+    (then (wrote c.in_ok-key.ensures) (then c.in_ok-write_value.ensures
+    (then (wrote c.in_ok-key-2.ensures) (then (wrote c.in_ok-null.ensures) last)))))
     (wrote_last c.end_object.result c.end_object.ensures)

@@ -1,8 +1,6 @@
 use Rattle.std.proofs.Common.{flat_map, drop}
-use Rattle.json.specs.Tree.{items_tokens}
-use Rattle.json.specs.Value.{items_of}
-use Rattle.wcif_results.specs.Results.{result_of}
-use Rattle.wcif_results.proofs.Adding.{Leads}
+use Rattle.json.specs.{Tree.items_tokens, Value.items_of}
+use Rattle.wcif_results.{specs.Results.result_of, proofs.Adding.Leads}
 use Rattle.wcif_results.proofs.results.write_results.Given as goal
 
 abbrev pub invariant-loop-number : goal.invariant-loop-number

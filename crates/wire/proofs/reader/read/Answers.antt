@@ -1,6 +1,5 @@
 use Rattle.std.proofs.Common.{◌≡◌, ℕ, ◌<◌, ◌∷◌, [], ◌++◌, length, get_or, drop, ap, ◌∙◌, arith}
-use Rattle.std.proofs.lemmas.List.{take_rest}
-use Rattle.std.proofs.lemmas.Result.{IfOk-weaker}
+use Rattle.std.proofs.lemmas.{List.take_rest, Result.IfOk-weaker}
 use Rattle.wire.proofs.Keeping.{read_from_one, bytes_append}
 use Rattle.wire.proofs.reader.read.Goals as goal
 
@@ -12,11 +11,9 @@ returns-in_ok-push-in-Ok-Some-clause-read c =
     let pushed : c.push.new.self.items ≡ c.in-Ok-Some.frame ∷ [] =
     c.in_ok-push-in-Ok-Some.ensures.items ∙ ap (λ fs. fs ++ c.in-Ok-Some.frame ∷ [])
     c.new-frames.ensures.items in
-    IfOk-weaker c.read_on-in-Ok-Some.result _ _
-    (λ r on.
+    IfOk-weaker c.read_on-in-Ok-Some.result _ _ (λ r on.
     let from_one = rw (take_rest, pushed) at on in
     read_from_one (c.args.held.now.items ++ c.args.piece.now)
     (drop c.in-Ok-Some.size c.args.piece.now) c.in-Ok-Some.frame r.frames.items _
     (bytes_append c.args.held.now.items c.args.piece.now fits
-    (λ i. omega (arith, c.type_inv.piece i))) begins.0 from_one)
-    c.read_on-in-Ok-Some.ensures.read
+    (λ i. omega (arith, c.type_inv.piece i))) begins.0 from_one) c.read_on-in-Ok-Some.ensures.read

@@ -1,6 +1,5 @@
 use Rattle.std.proofs.Common.{rules, arith}
-use Rattle.std.proofs.lemmas.List.{take_rest}
-use Rattle.std.proofs.lemmas.Result.{err_from_is_err_and}
+use Rattle.std.proofs.lemmas.{List.take_rest, Result.err_from_is_err_and}
 use Rattle.wire.proofs.WhatKind.{IsGood, good_read, good_lacks}
 use Rattle.wire.proofs.reading.frame_of.Goals as goal
 

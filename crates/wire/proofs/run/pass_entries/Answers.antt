@@ -1,10 +1,7 @@
 use Rattle.std.proofs.Common.{◌+◌, ◌-◌, [], ◌∷◌, ◌++◌, List, ap, arith}
-use Rattle.std.specs.Option.{option_map}
-use Rattle.std.proofs.lemmas.Result.{err_from_is_err_and}
+use Rattle.std.{specs.Option.option_map, proofs.lemmas.Result.err_from_is_err_and}
 use Rattle.acceptor.specs.declared.entry.Entry.{Entry}
-use Rattle.wire.specs.Fields.{Read}
-use Rattle.wire.specs.Reading.{entry_at}
-use Rattle.wire.specs.model.Parts.{part_entry}
+use Rattle.wire.specs.{Fields.Read, Reading.entry_at, model.Parts.part_entry}
 use Rattle.wire.proofs.Many.{begun, went_on, all_read, not_passed}
 use Rattle.wire.proofs.run.pass_entries.Goals as goal
 

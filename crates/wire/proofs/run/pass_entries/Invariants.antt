@@ -1,7 +1,6 @@
 use Rattle.std.proofs.Common.{◌-◌, List}
 use Rattle.acceptor.specs.declared.entry.Entry.{Entry}
-use Rattle.wire.specs.Reading.{entry_at}
-use Rattle.wire.proofs.Many.{GoesOn}
+use Rattle.wire.{specs.Reading.entry_at, proofs.Many.GoesOn}
 use Rattle.wire.proofs.run.pass_entries.Given as goal
 
 -- the entries so far were passed

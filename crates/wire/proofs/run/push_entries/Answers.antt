@@ -1,10 +1,7 @@
-use Rattle.std.proofs.Common.{◌≡◌, ◌+◌, ◌-◌, [], ◌∷◌, ◌++◌, List, sym, ap, ◌∙◌}
-use Rattle.std.proofs.Common.{append_assoc, arith}
-use Rattle.std.proofs.lemmas.List.{append-nil}
-use Rattle.std.proofs.lemmas.Result.{err_from_is_err_and}
+use Rattle.std.proofs.Common.{◌≡◌, ◌+◌, ◌-◌, [], ◌∷◌, ◌++◌, List, sym, ap, ◌∙◌, append_assoc, arith}
+use Rattle.std.proofs.lemmas.{List.append-nil, Result.err_from_is_err_and}
 use Rattle.acceptor.specs.declared.entry.Entry.{Entry}
-use Rattle.wire.specs.Reading.{entry_at}
-use Rattle.wire.specs.model.Parts.{part_entry}
+use Rattle.wire.specs.{Reading.entry_at, model.Parts.part_entry}
 use Rattle.wire.proofs.Many.{begun, went_on, all_read, not_pushed}
 use Rattle.wire.proofs.run.push_entries.Goals as goal
 

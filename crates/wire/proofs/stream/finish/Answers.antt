@@ -1,12 +1,8 @@
 use Rattle.std.proofs.Common.{◌+◌, drop, Result, ap, ◌∙◌, arith}
-use Rattle.std.proofs.lemmas.List.{take_rest}
-use Rattle.std.proofs.lemmas.Result.{err_from_is_err_and}
-use Rattle.wire.specs.declared.fault.WireFault.{WireFault}
-use Rattle.wire.specs.declared.frame.Frame.{Frame}
-use Rattle.wire.specs.Reading.{frame_of}
-use Rattle.wire.specs.Stream.{by_frame}
+use Rattle.std.proofs.lemmas.{List.take_rest, Result.err_from_is_err_and}
+use Rattle.wire.specs.declared.{fault.WireFault.WireFault, frame.Frame.Frame}
+use Rattle.wire.{specs.Reading.frame_of, specs.Stream.by_frame, proofs.Finishing.not_finished}
 use Rattle.wire.proofs.Finishing.{no_length, bad_length, filled, still_waits, whole_at}
-use Rattle.wire.proofs.Finishing.{not_finished}
 use Rattle.wire.proofs.stream.finish.Goals as goal
 
 pub returns-in_err-len-clause-finished : goal.returns-in_err-len-clause-finished

@@ -1,8 +1,7 @@
 use Rattle.std.proofs.Common.{◌≡◌, ◌∷◌, [], ◌++◌, sym, ap, subst, ◌∙◌, append_assoc, arith}
 use Rattle.std.proofs.lemmas.List.{take_rest}
 use Rattle.wire.specs.Stream.{Front, IsBegun}
-use Rattle.wire.proofs.Feeding.{first_more, first_begun}
-use Rattle.wire.proofs.Keeping.{on_err}
+use Rattle.wire.proofs.{Feeding.first_more, Feeding.first_begun, Keeping.on_err}
 use Rattle.wire.proofs.stream.take_frames.Goals as goal
 
 pub loop-frame-preserved : goal.loop-frame-preserved

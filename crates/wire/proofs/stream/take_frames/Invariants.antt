@@ -1,6 +1,5 @@
 use Rattle.std.proofs.Common.{◌≡◌, ◌-◌, ◌++◌, List, length}
-use Rattle.wire.specs.declared.frame.Frame.{Frame}
-use Rattle.wire.specs.model.Steps.{AreFirst}
+use Rattle.wire.specs.{declared.frame.Frame.Frame, model.Steps.AreFirst}
 use Rattle.wire.proofs.stream.take_frames.Given as goal
 
 -- the frames taken here are after those that were taken before

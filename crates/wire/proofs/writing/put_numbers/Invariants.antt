@@ -1,6 +1,5 @@
 use Rattle.std.proofs.Common.{◌≡◌, ◌++◌, take}
-use Rattle.std.specs.Int.{w32, to_be_bytes}
-use Rattle.std.specs.List.{flat_map}
+use Rattle.std.specs.{Int.w32, Int.to_be_bytes, List.flat_map}
 use Rattle.wire.proofs.writing.put_numbers.Given as goal
 
 -- the lengths so far were put

@@ -1,8 +1,6 @@
 use Rattle.std.proofs.Common.{◌≡◌, ℕ, ◌∙◌, ap, subst, take, length, arith}
-use Rattle.std.proofs.lemmas.List.{take_min}
-use Rattle.std.specs.Prelude.{min}
-use Rattle.answers.specs.Transcripts.{IsTranscript}
-use Rattle.answers.proofs.Transcripts.{is_as_long}
+use Rattle.std.{proofs.lemmas.List.take_min, specs.Prelude.min}
+use Rattle.answers.{specs.Transcripts.IsTranscript, proofs.Transcripts.is_as_long}
 use Rattle.answers.proofs.transcript.Transcript.of_first.Goals as goal
 
 pub take_to-requires-clause-old : goal.take_to-requires-clause-old
@@ -14,5 +12,4 @@ returns c =
     let all : length c.take_to.new.self.answers ≡ min c.args.count (length log) =
     omega (arith, c.in_ok-take_to.ensures.all, c.min.ensures, c.len.ensures.len) in
     subst (IsTranscript c.take_to.new.self)
-    (ap (λ (k : ℕ). take k log) all ∙ take_min c.args.count log)
-    c.take_to.ensures.front.first
+    (ap (λ (k : ℕ). take k log) all ∙ take_min c.args.count log) c.take_to.ensures.front.first

@@ -1,6 +1,5 @@
 use Rattle.std.proofs.Common.{◌≡◌, length, arith}
-use Rattle.answers.proofs.SheetsOf.{sheet_there, none_there}
-use Rattle.answers.proofs.Transcripts.{meet_is}
+use Rattle.answers.proofs.{SheetsOf.sheet_there, SheetsOf.none_there, Transcripts.meet_is}
 use Rattle.answers.proofs.transcript.Transcript.sheet_at.Goals as goal
 
 pub returns-clause-sheet : goal.returns-clause-sheet

@@ -1,7 +1,6 @@
 use Rattle.std.proofs.Common.{List, [], ◌∷◌, ◌++◌, ◌∙◌, ap, sym, subst}
-use Rattle.answers.specs.Answers.{texts}
+use Rattle.answers.{specs.Answers.texts, proofs.Transcripts.taken_next}
 use Rattle.answers.specs.Transcripts.{TranscriptValue, IsTranscript}
-use Rattle.answers.proofs.Transcripts.{taken_next}
 use Rattle.commands.specs.History.{History, answer_to}
 use Rattle.texts.specs.declared.answer.Answer.{Answer}
 use Rattle.answers.proofs.transcript.Transcript.take.Goals as goal

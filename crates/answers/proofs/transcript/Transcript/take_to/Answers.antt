@@ -12,8 +12,7 @@ loop-position-preserved c =
     record {
       front =
           front_next old c.take.new.self log c.in-Some.entry.now c.loop-position.invariant.front at
-          more
-          (c.in_ok-take.ensures.taken (take (length old.answers) log)
+          more (c.in_ok-take.ensures.taken (take (length old.answers) log)
           c.loop-position.invariant.front.first);
       next = more ∙ ap (λ (k : ℕ). k + 1) c.loop-position.invariant.next;
     }

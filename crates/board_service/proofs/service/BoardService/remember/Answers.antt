@@ -1,8 +1,7 @@
 use Rattle.std.proofs.Common.{Option, string_bytes, subst}
 use Rattle.board_views.specs.Views.{IsPageAt}
 use Rattle.markup.specs.declared.replies.page.Page.{Page}
-use Rattle.board_service.proofs.Services.{stands_within}
-use Rattle.board_service.proofs.Shelves.{put_is_at}
+use Rattle.board_service.proofs.{Services.stands_within, Shelves.put_is_at}
 use Rattle.board_service.proofs.service.BoardService.remember.Goals as goal
 
 pub invariant_of-self : goal.invariant_of-self
@@ -14,5 +13,4 @@ invariant_of-self c =
     c.self.invariant
     (subst (λ (o : Option Page). IsPageAt title fields.mirroring.entries path o) c.in-Some.is
     (stands_within title fields.mirroring fields.desks fields.time c.args.self.now c.self.view_is
-    path c.args.made c.requires))
-    c.put.ensures
+    path c.args.made c.requires)) c.put.ensures

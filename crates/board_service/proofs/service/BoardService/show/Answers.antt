@@ -13,5 +13,4 @@ returns-in-Some-clause-shows c =
     (Some page) path
     (kept_stands (string_bytes fields.title) fields.mirroring fields.desks fields.time
     c.args.self.now fields.shelf c.self.view_is c.self.invariant c.path-path.result.now page
-    (sym c.get.ensures ∙ ap option_copied c.in-Some.is))
-    c.in_ok-reply.ensures
+    (sym c.get.ensures ∙ ap option_copied c.in-Some.is)) c.in_ok-reply.ensures

@@ -1,25 +1,22 @@
 use Rattle.std.proofs.Common.{refl, sym, ◌∙◌}
 use Rattle.rounds.specs.Tables.{without_last}
-use Rattle.texts.specs.declared.command.Command.TheVariants as command
 use Rattle.texts.specs.Fields.{round_id}
-use Rattle.commands.specs.model.Kept.{IsIndexOf, IsAsBefore, with_advance, with_end}
-use Rattle.commands.specs.model.Kept.{with_reopening, with_settings, with_strike}
-use Rattle.commands.proofs.Apart.{changed_stays}
+use Rattle.commands.specs.model.Kept.{with_advance, with_end, with_reopening, with_settings}
+use Rattle.commands.specs.{model.Kept.with_strike, Accepted.withdraw_refusal}
+use Rattle.commands.proofs.{Apart.changed_stays, CardIndex.known_of}
 use Rattle.commands.proofs.Within.{attempt_within, correct_within, rescramble_within}
 use Rattle.commands.specs.Accepted.{advance_refusal, correct_refusal, enter_refusal}
 use Rattle.commands.specs.Accepted.{entered_refusal, is_registered, put_refusal, rules_refusal}
 use Rattle.commands.specs.Accepted.{scramble_by, scramble_of, scramble_refusal, strike_refusal}
-use Rattle.commands.specs.Accepted.{withdraw_refusal}
-use Rattle.commands.proofs.CardIndex.{known_of}
 use Rattle.commands.proofs.ReadCards.{card_read, fix_read}
-use Rattle.commands.proofs.Lookups.{on_err_then}
 use Rattle.commands.proofs.Arms.{unknown, by_round, by_entrant, by_entrant_or, again_answered}
 use Rattle.commands.proofs.Arms.{closes, reopens, known_number, cancels}
 use Rattle.commands.proofs.EachCommand.{round_advance, round_close, round_reopen, round_settings}
-use Rattle.commands.proofs.EachCommand.{round_strike}
-use Rattle.commands.proofs.Indexed.{registered, entered, scrambled, attempted, corrected, renamed}
-use Rattle.commands.proofs.Indexed.{round_noted, edition_noted, nothing_added, rescrambled}
-use Rattle.commands.proofs.Indexed.{rescramble_alike, withdrew, cancelled_or, kept_as_before}
+use Rattle.commands.proofs.EachCommand.{round_strike, round_register, round_rename}
+use Rattle.commands.proofs.Indexed.{named, entered, scrambled, attempted, corrected, round_noted}
+use Rattle.commands.proofs.Indexed.{edition_noted, nothing_added, rescrambled, rescramble_alike}
+use Rattle.commands.proofs.Indexed.{withdrew, cancelled_or, as_before_on_err}
+use Rattle.texts.specs.declared.command.Command.TheVariants as command
 use Rattle.commands.proofs.index.Index.apply.Goals as goal
 
 pub returns-then-is_of_nobody-clause-code : goal.returns-then-is_of_nobody-clause-code
@@ -34,15 +31,15 @@ returns-then-is_of_nobody-clause-index c =
 pub returns-in-Register-clause-index : goal.returns-in-Register-clause-index
 returns-in-Register-clause-index c =
     rw c.in-Register.is
-    (registered c.args.accepted.now c.in-Register.number c.in-Register.name c.register.result
-    c.args.self.now _ c.requires.index c.register.ensures.kept refl)
+    (named c.args.accepted.now (command.Register c.in-Register.number c.in-Register.name)
+    c.register.result c.args.self.now _ c.requires.index (λ e r k n. refl)
+    (λ e r. round_register e r c.in-Register.number c.in-Register.name c.args.accepted.now)
+    c.register.ensures.kept refl)
 
 pub returns-in-Enter-clause-code : goal.returns-in-Enter-clause-code
 returns-in-Enter-clause-code c =
-    rw c.in-Enter.is
-    (by_entrant_or c.args.accepted.now c.args.self.now c.requires.index
-    (round_id c.in-Enter.event 1) c.in-Enter.number (enter_refusal c.in-Enter.number)
-    c.enter.result
+    rw c.in-Enter.is (by_entrant_or c.args.accepted.now c.args.self.now c.requires.index
+    (round_id c.in-Enter.event 1) c.in-Enter.number (enter_refusal c.in-Enter.number) c.enter.result
     (rw c.in-Enter.is at (sym c.is_of_nobody.ensures ∙ c.if-is_of_nobody.false))
     c.enter.ensures.code)
 
@@ -58,8 +55,7 @@ returns-in-Scramble-clause-code c =
     (by_round c.args.accepted.now c.args.self.now c.requires.index c.in-Scramble.id
     (scramble_refusal c.in-Scramble.id.event c.in-Scramble.attempt
     (scramble_of c.args.accepted.now c.in-Scramble.id.event c.in-Scramble.id.round
-    c.in-Scramble.attempt))
-    c.add_scramble.result
+    c.in-Scramble.attempt)) c.add_scramble.result
     (rw c.scramble_of-there.ensures at c.add_scramble.ensures.code))
 
 pub returns-in-Scramble-clause-index : goal.returns-in-Scramble-clause-index
@@ -67,11 +63,9 @@ returns-in-Scramble-clause-index c =
     let id = c.in-Scramble.id in
     rw c.in-Scramble.is
     (scrambled c.args.accepted.now id.event id.round c.in-Scramble.attempt c.in-Scramble.moves
-    c.add_scramble.result c.args.self.now _ c.requires.index
-    (rw
+    c.add_scramble.result c.args.self.now _ c.requires.index (rw
     (c.scramble_of-there.ensures, c.requires.index.rounds.rounds id.event id.round) at
-    c.add_scramble.ensures.code)
-    refl c.add_scramble.ensures.done c.add_scramble.ensures.refused)
+    c.add_scramble.ensures.code) refl c.add_scramble.ensures.done c.add_scramble.ensures.refused)
 
 pub put-requires-clause-attempt : goal.put-requires-clause-attempt
 put-requires-clause-attempt c =
@@ -83,29 +77,21 @@ returns-in-Attempt-clause-code c =
     rw c.in-Attempt.is
     (by_entrant_or c.args.accepted.now c.args.self.now c.requires.index entry.id entry.number
     (entered_refusal entry.id.event entry.outcome (scramble_by c.args.accepted.now entry)
-    (put_refusal entry.number entry.attempt))
-    c.put.result
+    (put_refusal entry.number entry.attempt)) c.put.result
     (rw c.in-Attempt.is at (sym c.is_of_nobody.ensures ∙ c.if-is_of_nobody.false))
     (rw c.scramble_of-scramble.ensures at c.put.ensures.code))
 
 pub returns-in-Attempt-clause-index : goal.returns-in-Attempt-clause-index
 returns-in-Attempt-clause-index c =
-    let entry = c.in-Attempt.entry in
     rw c.in-Attempt.is
-    (attempted c.args.accepted.now entry.id.event entry.id.round entry.attempt entry.number
-    entry.outcome c.put.result c.args.self.now _ c.requires.index refl
+    (attempted c.args.accepted.now c.in-Attempt.entry c.put.result c.args.self.now _
+    c.requires.index refl
     (rw c.scramble_of-scramble.ensures at c.put.ensures.done) c.put.ensures.refused)
 
 pub returns-in-Attempt-clause-err : goal.returns-in-Attempt-clause-err
 returns-in-Attempt-clause-err c =
-    on_err_then {P = IsAsBefore c.args.self.now.rounds c.put.new.self}
-    {Q = IsIndexOf c.args.accepted.now
-    (record { competitors = c.args.self.now.competitors; rounds = c.put.new.self })}
-    c.put.result
-    (kept_as_before c.args.accepted.now c.args.self.now
-    (record { competitors = c.args.self.now.competitors; rounds = c.put.new.self })
-    c.requires.index refl)
-    c.put.ensures.err
+    as_before_on_err c.args.accepted.now c.args.self.now c.put.new.self c.put.result
+    c.requires.index c.put.ensures.err
 
 pub correct-requires-clause-attempt : goal.correct-requires-clause-attempt
 correct-requires-clause-attempt c =
@@ -118,30 +104,21 @@ returns-in-Correct-clause-code c =
     (by_entrant_or c.args.accepted.now c.args.self.now c.requires.index entry.id entry.number
     (entered_refusal entry.id.event entry.outcome (scramble_by c.args.accepted.now entry)
     (correct_refusal entry.number entry.attempt (scramble_by c.args.accepted.now entry)
-    entry.outcome))
-    c.correct.result
+    entry.outcome)) c.correct.result
     (rw c.in-Correct.is at (sym c.is_of_nobody.ensures ∙ c.if-is_of_nobody.false))
     (rw c.scramble_of-scramble-in-Correct.ensures at c.correct.ensures.code))
 
 pub returns-in-Correct-clause-index : goal.returns-in-Correct-clause-index
 returns-in-Correct-clause-index c =
-    let entry = c.in-Correct.entry in
     rw c.in-Correct.is
-    (corrected c.args.accepted.now entry.id.event entry.id.round entry.attempt entry.number
-    entry.outcome c.correct.result c.args.self.now _ c.requires.index refl
-    (rw c.scramble_of-scramble-in-Correct.ensures at c.correct.ensures.done)
+    (corrected c.args.accepted.now c.in-Correct.entry c.correct.result c.args.self.now _
+    c.requires.index refl (rw c.scramble_of-scramble-in-Correct.ensures at c.correct.ensures.done)
     c.correct.ensures.refused)
 
 pub returns-in-Correct-clause-err : goal.returns-in-Correct-clause-err
 returns-in-Correct-clause-err c =
-    on_err_then {P = IsAsBefore c.args.self.now.rounds c.correct.new.self}
-    {Q = IsIndexOf c.args.accepted.now
-    (record { competitors = c.args.self.now.competitors; rounds = c.correct.new.self })}
-    c.correct.result
-    (kept_as_before c.args.accepted.now c.args.self.now
-    (record { competitors = c.args.self.now.competitors; rounds = c.correct.new.self })
-    c.requires.index refl)
-    c.correct.ensures.err
+    as_before_on_err c.args.accepted.now c.args.self.now c.correct.new.self c.correct.result
+    c.requires.index c.correct.ensures.err
 
 pub returns-in-Strike-clause-code : goal.returns-in-Strike-clause-code
 returns-in-Strike-clause-code c =
@@ -156,11 +133,9 @@ returns-in-Strike-clause-index c =
     rw c.in-Strike.is
     (round_noted c.args.accepted.now (command.Strike c.in-Strike.id c.in-Strike.number)
     c.in-Strike.id (with_strike c.in-Strike.number) c.strike.result c.args.self.now _
-    c.requires.index (λ f s k n. refl)
-    (λ f s.
+    c.requires.index (λ f s k n. refl) (λ f s.
     round_strike f c.in-Strike.id.event s c.in-Strike.id.round c.in-Strike.number
-    c.args.accepted.now)
-    (λ x n. changed_stays n c.in-Strike.number without_last x.1.entrants)
+    c.args.accepted.now) (λ x n. changed_stays n c.in-Strike.number without_last x.1.entrants)
     refl c.strike.ensures.done c.strike.ensures.refused)
 
 pub returns-in-SetAdvance-clause-code : goal.returns-in-SetAdvance-clause-code
@@ -174,8 +149,7 @@ returns-in-SetAdvance-clause-index c =
     rw c.in-SetAdvance.is
     (round_noted c.args.accepted.now (command.SetAdvance c.in-SetAdvance.id c.in-SetAdvance.advance)
     c.in-SetAdvance.id (with_advance c.in-SetAdvance.advance) c.set_advance.result c.args.self.now _
-    c.requires.index (λ f s k n. refl)
-    (λ f s.
+    c.requires.index (λ f s k n. refl) (λ f s.
     round_advance f c.in-SetAdvance.id.event s c.in-SetAdvance.id.round c.in-SetAdvance.advance
     c.args.accepted.now)
     (λ x n. refl) refl c.set_advance.ensures.done c.set_advance.ensures.refused)
@@ -202,27 +176,25 @@ rename-requires-clause-known c =
 pub returns-in-Rename-clause-index : goal.returns-in-Rename-clause-index
 returns-in-Rename-clause-index c =
     rw c.in-Rename.is
-    (renamed c.args.accepted.now c.in-Rename.number c.in-Rename.name c.rename.result
-    c.args.self.now _ c.requires.index c.rename.ensures.kept refl)
+    (named c.args.accepted.now (command.Rename c.in-Rename.number c.in-Rename.name)
+    c.rename.result c.args.self.now _ c.requires.index (λ e r k n. refl)
+    (λ e r. round_rename e r c.in-Rename.number c.in-Rename.name c.args.accepted.now)
+    c.rename.ensures.kept refl)
 
 pub returns-in-SetRound-clause-code : goal.returns-in-SetRound-clause-code
 returns-in-SetRound-clause-code c =
     rw c.in-SetRound.is
     (by_round c.args.accepted.now c.args.self.now c.requires.index c.in-SetRound.id
     (rules_refusal c.in-SetRound.id.event c.in-SetRound.format c.in-SetRound.cutoff
-    c.in-SetRound.limit)
-    c.set_round.result c.set_round.ensures.code)
+    c.in-SetRound.limit) c.set_round.result c.set_round.ensures.code)
 
 pub returns-in-SetRound-clause-index : goal.returns-in-SetRound-clause-index
 returns-in-SetRound-clause-index c =
-    rw c.in-SetRound.is
-    (round_noted c.args.accepted.now
+    rw c.in-SetRound.is (round_noted c.args.accepted.now
     (command.SetRound c.in-SetRound.id c.in-SetRound.format c.in-SetRound.cutoff
-    c.in-SetRound.limit)
-    c.in-SetRound.id
+    c.in-SetRound.limit) c.in-SetRound.id
     (with_settings c.in-SetRound.format c.in-SetRound.cutoff c.in-SetRound.limit)
-    c.set_round.result c.args.self.now _ c.requires.index (λ f s k n. refl)
-    (λ f s.
+    c.set_round.result c.args.self.now _ c.requires.index (λ f s k n. refl) (λ f s.
     round_settings f c.in-SetRound.id.event s c.in-SetRound.id.round c.in-SetRound.format
     c.in-SetRound.cutoff c.in-SetRound.limit c.args.accepted.now)
     (λ x n. refl) refl c.set_round.ensures.done c.set_round.ensures.refused)
@@ -239,15 +211,11 @@ returns-in-Rescramble-clause-code c =
 pub returns-in-Rescramble-clause-index : goal.returns-in-Rescramble-clause-index
 returns-in-Rescramble-clause-index c =
     let id = c.in-Rescramble.id in
-    rw c.in-Rescramble.is
-    (rescrambled c.args.accepted.now id.event id.round c.in-Rescramble.attempt
-    c.in-Rescramble.moves c.rescramble.result c.args.self.now _ c.requires.index
-    (rw
+    rw c.in-Rescramble.is (rescrambled c.args.accepted.now id.event id.round c.in-Rescramble.attempt
+    c.in-Rescramble.moves c.rescramble.result c.args.self.now _ c.requires.index (rw
     (rescramble_alike c.args.accepted.now c.args.self.now.rounds.opened.items id.event id.round
-    c.in-Rescramble.attempt
-    (rescramble_within id c.in-Rescramble.attempt c.in-Rescramble.moves
-    (rw c.in-Rescramble.is at c.requires.command)).0
-    c.requires.index.rounds) at
+    c.in-Rescramble.attempt (rescramble_within id c.in-Rescramble.attempt c.in-Rescramble.moves
+    (rw c.in-Rescramble.is at c.requires.command)).0 c.requires.index.rounds) at
     (rw c.scramble_of-there-in-Rescramble.ensures at c.rescramble.ensures.code))
     refl c.rescramble.ensures.done c.rescramble.ensures.refused)
 
@@ -265,8 +233,7 @@ returns-in-Withdraw-clause-code c =
 
 pub returns-in-Withdraw-clause-index : goal.returns-in-Withdraw-clause-index
 returns-in-Withdraw-clause-index c =
-    rw c.in-Withdraw.is
-    (withdrew c.args.accepted.now c.in-Withdraw.id.event c.in-Withdraw.id.round
+    rw c.in-Withdraw.is (withdrew c.args.accepted.now c.in-Withdraw.id.event c.in-Withdraw.id.round
     c.in-Withdraw.number c.withdraw.result c.args.self.now _ c.requires.index refl
     c.withdraw.ensures.done c.withdraw.ensures.refused)
 

@@ -1,16 +1,12 @@
 use Rattle.std.proofs.Common.{◌≡◌, false, None, Some, All, option_map, refl, sym, subst, ap, ◌∙◌}
 use Rattle.std.proofs.Common.{append-nil}
 use Rattle.attempts.specs.Attempts.{IsInRangeOf}
-use Rattle.rounds.specs.Rows.{AreValues}
-use Rattle.commands.specs.declared.kept_rounds.KeptRound.{KeptRound}
-use Rattle.rounds.specs.Tables.{set_fault}
+use Rattle.rounds.specs.{Rows.AreValues, Tables.set_fault}
+use Rattle.commands.specs.{declared.kept_rounds.KeptRound.KeptRound, model.Cards.scrambles_of}
 use Rattle.texts.specs.declared.command.Command.TheVariants.{Card}
 use Rattle.commands.specs.Accepted.{card_values, set_code}
-use Rattle.commands.specs.model.Cards.{scrambles_of}
-use Rattle.commands.proofs.Lookups.{on_err}
+use Rattle.commands.proofs.{Lookups.on_err, CardRounds.card_is, CardSteps.read_twice}
 use Rattle.commands.proofs.CardIndex.{dealt, only_room, in_range, card_late}
-use Rattle.commands.proofs.CardRounds.{card_is}
-use Rattle.commands.proofs.CardSteps.{read_twice}
 use Rattle.commands.proofs.index.Index.card.Goals as goal
 
 pub returns-in_err-make_room-clause-err : goal.returns-in_err-make_room-clause-err
@@ -42,8 +38,7 @@ returns-in-Ok-clause-code c =
     card_late c.args.accepted.now c.args.self.now c.requires.index c.args.card.now c.in-Some.place
     c.index-kept.result.now c.in-Some.ensures.kept c.index-kept.ensures c.requires.known
     c.in_default-early_refusal.ensures.code c.deref.result.now
-    (c.deref.ensures.value ∙ c.in_ok-values.ensures) None
-    (ap (option_map set_code)
+    (c.deref.ensures.value ∙ c.in_ok-values.ensures) None (ap (option_map set_code)
     (sym c.in-Ok.ensures.allowed
     ∙ ap (λ (k : KeptRound). set_fault k.table c.args.card.now.number c.deref.result.now)
     (sym same)))
@@ -59,13 +54,10 @@ returns-in-Ok-clause-index c =
     (Card c.args.card.now) (card_is c.args.card.now) _ c.deref.result.now c.set.new.self
     c.make_room.new.self c.note_card.new.self c.as_slice-now.result.now refl refl
     (subst (λ (k : KeptRound). AreValues k.table c.args.card.now.number c.args.card.now.was) same
-    c.in_default-early_refusal.ensures.seen)
-    (c.deref.ensures.value ∙ c.in_ok-values.ensures
-    ∙ ap
-    (λ (k : KeptRound).
+    c.in_default-early_refusal.ensures.seen) (c.deref.ensures.value ∙ c.in_ok-values.ensures
+    ∙ ap (λ (k : KeptRound).
     card_values (scrambles_of c.args.accepted.now c.args.card.now.id) c.args.card.now k.settings)
-    same)
-    c.in-Ok.ensures.set c.make_room.ensures.same c.as_slice-now.ensures c.note_card.ensures
+    same) c.in-Ok.ensures.set c.make_room.ensures.same c.as_slice-now.ensures c.note_card.ensures
 
 pub returns-clause-code : goal.returns-clause-code
 returns-clause-code c =
@@ -76,10 +68,8 @@ returns-clause-code c =
     card_late c.args.accepted.now c.args.self.now c.requires.index c.args.card.now c.in-Some.place
     c.index-kept.result.now c.in-Some.ensures.kept c.index-kept.ensures c.requires.known
     c.in_default-early_refusal.ensures.code c.deref.result.now
-    (c.deref.ensures.value ∙ c.in_ok-values.ensures) _
-    (ap Some c.set_code.ensures
-    ∙ ap (option_map set_code)
-    (sym c.in-Err.ensures.refused
+    (c.deref.ensures.value ∙ c.in_ok-values.ensures) _ (ap Some c.set_code.ensures
+    ∙ ap (option_map set_code) (sym c.in-Err.ensures.refused
     ∙ ap (λ (k : KeptRound). set_fault k.table c.args.card.now.number c.deref.result.now)
     (sym same)))
 
@@ -88,5 +78,4 @@ returns-clause-index c =
     rw (append-nil c.args.accepted.now)
     (only_room c.args.accepted.now c.args.self.now c.requires.index c.args.card.now c.in-Some.place
     c.index_mut-kept.result.now c.in-Some.ensures.kept c.index_mut-kept.ensures.value _
-    c.make_room.new.self refl
-    (rw c.in-Err.ensures.unchanged refl) c.make_room.ensures.same)
+    c.make_room.new.self refl (rw c.in-Err.ensures.unchanged refl) c.make_room.ensures.same)

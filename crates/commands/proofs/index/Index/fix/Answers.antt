@@ -1,14 +1,11 @@
 use Rattle.std.proofs.Common.{◌≡◌, true, false, None, Some, All, refl, sym, subst, ap, ◌∙◌}
 use Rattle.attempts.specs.Attempts.{IsInRangeOf}
 use Rattle.rounds.specs.Rows.{AreValues}
-use Rattle.commands.specs.declared.kept_rounds.KeptRound.{KeptRound}
+use Rattle.commands.specs.{declared.kept_rounds.KeptRound.KeptRound, Accepted.card_values}
 use Rattle.texts.specs.declared.command.Command.TheVariants.{Fix}
-use Rattle.commands.specs.Accepted.{card_values}
 use Rattle.commands.specs.model.Cards.{scrambles_of}
-use Rattle.commands.proofs.Lookups.{on_err}
+use Rattle.commands.proofs.{Lookups.on_err, CardRounds.fix_is, CardSteps.read_twice}
 use Rattle.commands.proofs.CardIndex.{dealt, only_room, in_range, fix_answer}
-use Rattle.commands.proofs.CardRounds.{fix_is}
-use Rattle.commands.proofs.CardSteps.{read_twice}
 use Rattle.commands.proofs.index.Index.fix.Goals as goal
 
 pub returns-in-Some-fix_fault-clause-code : goal.returns-in-Some-fix_fault-clause-code
@@ -72,10 +69,7 @@ returns-in-Ok-clause-index c =
     (Fix c.args.card.now) (fix_is c.args.card.now) _ c.deref-3.result.now c.fix.new.self
     c.make_room.new.self c.note_card.new.self c.as_slice-now.result.now refl refl
     (subst (λ (k : KeptRound). AreValues k.table c.args.card.now.number c.args.card.now.was) same
-    c.in_default-early_refusal.ensures.seen)
-    (c.deref-3.ensures.value ∙ c.in_ok-values.ensures
-    ∙ ap
-    (λ (k : KeptRound).
+    c.in_default-early_refusal.ensures.seen) (c.deref-3.ensures.value ∙ c.in_ok-values.ensures
+    ∙ ap (λ (k : KeptRound).
     card_values (scrambles_of c.args.accepted.now c.args.card.now.id) c.args.card.now k.settings)
-    same)
-    c.in-Ok.ensures.set c.make_room.ensures.same c.as_slice-now.ensures c.note_card.ensures
+    same) c.in-Ok.ensures.set c.make_room.ensures.same c.as_slice-now.ensures c.note_card.ensures

@@ -15,8 +15,7 @@ pub returns-then-lacks_at : goal.returns-then-lacks_at
 returns-then-lacks_at c =
     let long : length c.as_slice-at-end.result.now ≡ length c.args.card.now.now =
     ap length c.as_slice-at-end.ensures in
-    sym
-    (c.loop-at.invariant
+    sym (c.loop-at.invariant
     ∙ outcome_found (lacks_in (scrambles_of c.args.accepted.now c.args.card.now.id)) c.loop-at.at
     c.args.card.now.now (omega arith) (sym c.lacks_at.ensures ∙ c.if-lacks_at.true))
 
@@ -24,7 +23,6 @@ pub returns : goal.returns
 returns c =
     let long : length c.as_slice-at-end.result.now ≡ length c.args.card.now.now =
     ap length c.as_slice-at-end.ensures in
-    sym
-    (c.loop-at.invariant
+    sym (c.loop-at.invariant
     ∙ outcome_past (lacks_in (scrambles_of c.args.accepted.now c.args.card.now.id)) _ c.loop-at.at
     c.args.card.now.now (omega arith))

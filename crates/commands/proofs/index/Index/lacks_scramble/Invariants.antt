@@ -1,6 +1,5 @@
 use Rattle.std.proofs.Common.{◌≡◌, suc, drop}
-use Rattle.commands.specs.Accepted.{has_outcome}
-use Rattle.commands.specs.model.Cards.{scrambles_of, lacks_in}
+use Rattle.commands.specs.{Accepted.has_outcome, model.Cards.scrambles_of, model.Cards.lacks_in}
 use Rattle.commands.proofs.index.Index.lacks_scramble.Given as goal
 
 abbrev pub invariant-loop-at : goal.invariant-loop-at

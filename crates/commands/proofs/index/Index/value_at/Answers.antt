@@ -1,11 +1,10 @@
 use Rattle.std.proofs.Common.{◌≡◌, ◌<◌, ◌+◌, length, None, get_or, Option, List, sym, ◌∙◌, ap}
 use Rattle.std.proofs.Common.{arith}
 use Rattle.attempts.specs.declared.Value.{Value}
-use Rattle.attempts.specs.declared.Value.TheVariants as value
 use Rattle.texts.specs.declared.command.Entered.{Entered}
-use Rattle.commands.specs.Accepted.{counts_in}
-use Rattle.commands.specs.model.Cards.{scrambles_of, value_at}
+use Rattle.commands.specs.{Accepted.counts_in, model.Cards.scrambles_of, model.Cards.value_at}
 use Rattle.commands.proofs.CardSteps.{nothing_at, any_default}
+use Rattle.attempts.specs.declared.Value.TheVariants as value
 use Rattle.commands.proofs.index.Index.value_at.Goals as goal
 
 pub bounds-as_slice-at-in-None : goal.bounds-as_slice-at-in-None
@@ -26,10 +25,6 @@ returns-in-None c =
     ap (λ (vs : List Value). get_or vs c.args.at (value.Number 0)) c.as_slice-in-None.ensures
     ∙ any_default c.args.card.now.was c.args.at (value.Number 0) value.Dns
     (c.requires.card.stands c.args.at c.requires.within none)
-    ∙ ap
-    (λ (o : Option Entered).
-    value_at
-    (counts_in c.args.settings (scrambles_of c.args.accepted.now c.args.card.now.id)
-    (c.args.at + 1))
-    o (get_or c.args.card.now.was c.args.at value.Dns))
-    (sym none)
+    ∙ ap (λ (o : Option Entered).
+    value_at (counts_in c.args.settings (scrambles_of c.args.accepted.now c.args.card.now.id)
+    (c.args.at + 1)) o (get_or c.args.card.now.was c.args.at value.Dns)) (sym none)

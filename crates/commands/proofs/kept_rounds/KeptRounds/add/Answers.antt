@@ -1,8 +1,6 @@
-use Rattle.std.proofs.Common.{refl, subst}
-use Rattle.std.proofs.Common.{nat_eq}
+use Rattle.std.proofs.Common.{refl, subst, nat_eq}
 use Rattle.std.specs.List.{IsDistinct}
-use Rattle.commands.specs.Accepted.{who_advance}
-use Rattle.commands.specs.model.Kept.{before_in, AreOthers}
+use Rattle.commands.specs.{Accepted.who_advance, model.Kept.before_in, model.Kept.AreOthers}
 use Rattle.commands.proofs.KeptLemmas.{round_pushed, all_free}
 use Rattle.commands.proofs.kept_rounds.KeptRounds.add.Goals as goal
 
@@ -14,8 +12,7 @@ returns-clause-ok c =
       adds =
           rw c.in_ok-push.ensures.items
           (round_pushed c.args.self.now.opened.items _ c.args.id.event c.args.id.round _ _ _ refl
-          refl
-          (rw (
+          refl (rw (
             c.in_ok-table.ensures,
             c.deref.ensures.value,
             c.in_ok-numbers.ensures.order,

@@ -1,7 +1,6 @@
 use Rattle.std.proofs.Common.{not, find, ap, ◌∙◌, rules}
 use Rattle.std.proofs.lemmas.Fn.{filter_same}
-use Rattle.commands.specs.model.Kept.{is_round}
-use Rattle.commands.proofs.KeptLemmas.{found_without}
+use Rattle.commands.{specs.model.Kept.is_round, proofs.KeptLemmas.found_without}
 use Rattle.commands.proofs.kept_rounds.KeptRounds.cancel.Goals as goal
 
 pub returns-clause-done : goal.returns-clause-done

@@ -1,7 +1,5 @@
-use Rattle.std.proofs.Common.{refl, sym}
-use Rattle.std.specs.Option.{option_copied}
-use Rattle.commands.specs.Accepted.{correct_refusal}
-use Rattle.commands.specs.model.Kept.{with_correction}
+use Rattle.std.{proofs.Common.refl, proofs.Common.sym, specs.Option.option_copied}
+use Rattle.commands.specs.{Accepted.correct_refusal, model.Kept.with_correction}
 use Rattle.commands.proofs.Lookups.{on_err}
 use Rattle.commands.proofs.SettledLemmas.{entered_to, as_before_to, value_is}
 use Rattle.commands.proofs.kept_rounds.KeptRounds.correct.Goals as goal
@@ -14,8 +12,7 @@ returns-in-Ok-correct-clause-done c =
     c.correct.new.self c.make_room.new.self c.note.new.self c.is_solution-solved.result
     (with_correction c.args.entry.now.number c.args.entry.now.attempt
     (option_copied c.args.scramble) c.args.entry.now.outcome)
-    c.is_solution-solved.ensures c.make_room.ensures.same c.note.ensures
-    (rw (
+    c.is_solution-solved.ensures c.make_room.ensures.same c.note.ensures (rw (
       c.in-Ok-correct.ensures.corrected,
       value_is c.args.entry.now (option_copied c.args.scramble) c.args.self.now found.0 found.1
           c.in-Ok.ensures.settled c.index_mut-kept.result.now c.index_mut-kept.ensures.value,
@@ -41,6 +38,5 @@ returns-in-Err-correct-clause-refused c =
 pub returns-in-Err-clause-code : goal.returns-in-Err-clause-code
 returns-in-Err-clause-code c =
     let entry = c.args.entry.now in
-    sym
-    (c.in-Err.ensures.refused
+    sym (c.in-Err.ensures.refused
     (correct_refusal entry.number entry.attempt (option_copied c.args.scramble) entry.outcome))

@@ -1,7 +1,5 @@
-use Rattle.std.proofs.Common.{refl}
-use Rattle.std.specs.Option.{option_copied}
-use Rattle.commands.specs.model.Kept.{with_attempt}
-use Rattle.commands.proofs.Lookups.{on_err}
+use Rattle.std.{proofs.Common.refl, specs.Option.option_copied}
+use Rattle.commands.{specs.model.Kept.with_attempt, proofs.Lookups.on_err}
 use Rattle.commands.proofs.SettledLemmas.{entered_to, as_before_to, value_is}
 use Rattle.commands.proofs.kept_rounds.KeptRounds.put.Goals as goal
 
@@ -12,8 +10,7 @@ returns-in-Ok-put-clause-done c =
     c.in-Ok.ensures.settled c.index_mut-kept.result.now c.index_mut-kept.ensures.value
     c.put.new.self c.make_room.new.self c.note.new.self c.is_solution-solved.result
     (with_attempt c.args.entry.now.number (option_copied c.args.scramble) c.args.entry.now.outcome)
-    c.is_solution-solved.ensures c.make_room.ensures.same c.note.ensures
-    (rw (
+    c.is_solution-solved.ensures c.make_room.ensures.same c.note.ensures (rw (
       c.in-Ok-put.ensures.put,
       value_is c.args.entry.now (option_copied c.args.scramble) c.args.self.now found.0 found.1
           c.in-Ok.ensures.settled c.index_mut-kept.result.now c.index_mut-kept.ensures.value,

@@ -1,6 +1,5 @@
 use Rattle.std.proofs.Common.{refl}
-use Rattle.commands.specs.model.Kept.{with_advance}
-use Rattle.commands.proofs.KeptLemmas.{round_set_to}
+use Rattle.commands.{specs.model.Kept.with_advance, proofs.KeptLemmas.round_set_to}
 use Rattle.commands.proofs.kept_rounds.KeptRounds.set_advance.Goals as goal
 
 pub returns-clause-done : goal.returns-clause-done

@@ -1,6 +1,5 @@
 use Rattle.std.proofs.Common.{refl}
-use Rattle.commands.specs.model.Kept.{with_strike}
-use Rattle.commands.proofs.KeptLemmas.{round_set_to}
+use Rattle.commands.{specs.model.Kept.with_strike, proofs.KeptLemmas.round_set_to}
 use Rattle.commands.proofs.kept_rounds.KeptRounds.strike.Goals as goal
 
 pub returns-in-Ok-clause-done : goal.returns-in-Ok-clause-done

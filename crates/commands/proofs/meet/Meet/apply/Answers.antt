@@ -27,8 +27,7 @@ returns-clause-stands c =
     c.insert.ensures.keys in
     let ids : c.insert.new.self.keys ≡ c.args.self.now.ids ++ c.args.id ∷ [] =
     rw (← c.self.view_is) kept in
-    let accepted : c.do_text.new.accepted
-    ≡ c.args.self.now.accepted ++ added_read
+    let accepted : c.do_text.new.accepted ≡ c.args.self.now.accepted ++ added_read
     (read_refusal c.args.self.now.accepted (command_of c.args.text.now))
     (command_of c.args.text.now) =
     rw (← c.self.view_is) c.in_ok-answer.ensures.added in

@@ -1,7 +1,6 @@
 use Rattle.std.proofs.Common.{sym, subst}
-use Rattle.cube.specs.declared.moves.Quarter.{Quarter}
+use Rattle.cube.specs.{declared.moves.Quarter.Quarter, Turns.Undoes}
 use Rattle.cube.specs.declared.moves.Quarter.TheVariants.{Clockwise, Half, Anticlockwise}
-use Rattle.cube.specs.Turns.{Undoes}
 use Rattle.cube.proofs.Compositions.{inverse_undoes}
 use Rattle.cube.proofs.moves.Move.inverse.Goals as goal
 

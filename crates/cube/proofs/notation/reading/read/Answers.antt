@@ -2,8 +2,7 @@ use Rattle.std.proofs.Common.{◌≢◌, [], sym, ◌∙◌, subst}
 use Rattle.cube.specs.notation.Notation.{Spells, IsTooMany}
 use Rattle.cube.proofs.notation.Scanning.{told_moves, told_bad, told_many, told_empty, reads_as}
 use Rattle.cube.proofs.notation.Scanning.{spells_scan, bad_scan, many_scan, empty_spells}
-use Rattle.cube.proofs.notation.Scanning.{empty_many}
-use Rattle.cube.proofs.notation.Steps.{empty_from, some_from}
+use Rattle.cube.proofs.notation.{Scanning.empty_many, Steps.empty_from, Steps.some_from}
 use Rattle.cube.proofs.notation.reading.read.Goals as goal
 
 pub returns-then-is_empty-clause-only : goal.returns-then-is_empty-clause-only

@@ -1,10 +1,8 @@
 use Rattle.std.proofs.Common.{◌+◌, ◌-◌, ◌∙◌, sym, ap, [], ◌∷◌, ◌++◌, length, take, drop, inl, Ok}
 use Rattle.std.proofs.Common.{arith, length-drop}
 use Rattle.cube.specs.notation.model.Scan.{space_len, behind_spaces, move_named, scan}
-use Rattle.cube.proofs.notation.Joined.{with_moves}
+use Rattle.cube.proofs.notation.{Joined.with_moves, Steps.read_end, Steps.read_too_many}
 use Rattle.cube.proofs.notation.Steps.{empty_from, some_from, read_none, read_last, read_more}
-use Rattle.cube.proofs.notation.Steps.{read_end}
-use Rattle.cube.proofs.notation.Steps.{read_too_many}
 use Rattle.cube.proofs.notation.reading.read_tokens.Goals as goal
 
 pub returns-in_default : goal.returns-in_default

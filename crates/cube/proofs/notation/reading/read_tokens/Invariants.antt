@@ -1,6 +1,5 @@
 use Rattle.std.proofs.Common.{◌≡◌, ◌≤◌, ◌-◌, length}
-use Rattle.cube.specs.notation.model.Scan.{scan}
-use Rattle.cube.proofs.notation.Joined.{with_moves}
+use Rattle.cube.{specs.notation.model.Scan.scan, proofs.notation.Joined.with_moves}
 use Rattle.cube.proofs.notation.reading.read_tokens.Given as goal
 
 -- the moves so far, and what is read of the rest, are what is read of the text

@@ -1,7 +1,6 @@
 use Rattle.std.proofs.Common.{sym}
-use Rattle.cube.specs.declared.moves.Axis.TheVariants.{X, Y, Z}
-use Rattle.cube.specs.declared.moves.Kind.TheVariants.{Turn}
-use Rattle.cube.proofs.Compositions.{anticlockwise_turned}
+use Rattle.cube.specs.declared.moves.{Axis.TheVariants.X, Axis.TheVariants.Y, Kind.TheVariants.Turn}
+use Rattle.cube.{specs.declared.moves.Axis.TheVariants.Z, proofs.Compositions.anticlockwise_turned}
 use Rattle.cube.proofs.pieces.Pieces.rotated_with.Goals as goal
 
 pub returns-in-D : goal.returns-in-D

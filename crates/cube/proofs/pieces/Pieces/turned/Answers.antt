@@ -1,6 +1,5 @@
 use Rattle.std.proofs.Common.{sym, ap, ◌∙◌}
-use Rattle.cube.specs.model.Pieces.{colours_of}
-use Rattle.cube.specs.Turns.{turned}
+use Rattle.cube.specs.{model.Pieces.colours_of, Turns.turned}
 use Rattle.cube.proofs.Compositions.{once, half_turned, anticlockwise_turned}
 use Rattle.cube.proofs.pieces.Pieces.turned.Goals as goal
 

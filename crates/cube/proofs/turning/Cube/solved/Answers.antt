@@ -1,9 +1,7 @@
-use Rattle.std.proofs.Common.{refl}
-use Rattle.std.proofs.lemmas.List.Sorted.{IsPermutation-refl}
+use Rattle.std.proofs.{Common.refl, lemmas.List.Sorted.IsPermutation-refl}
 use Rattle.cube.specs.model.Pieces.{colours_of, arranged, corner_colours, edge_colours}
 use Rattle.cube.specs.Turns.{first_arrangement}
-use Rattle.cube.proofs.Rearranged.{nine_of_each}
-use Rattle.cube.proofs.Solved.{first_solved}
+use Rattle.cube.proofs.{Rearranged.nine_of_each, Solved.first_solved}
 use Rattle.cube.proofs.turning.Cube.solved.Goals as goal
 
 pub invariant_of-result : goal.invariant_of-result

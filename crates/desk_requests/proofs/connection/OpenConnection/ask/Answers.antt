@@ -1,7 +1,6 @@
 use Rattle.std.proofs.Common.{Result, Ok, Err, IfOk}
 use Rattle.client.specs.declared.fault.ClientFault.{ClientFault}
-use Rattle.wire.specs.Ranges.{IsFrame}
-use Rattle.wire.specs.declared.frame.Frame.{Frame}
+use Rattle.wire.specs.{Ranges.IsFrame, declared.frame.Frame.Frame}
 use Rattle.desk_requests.proofs.connection.OpenConnection.ask.Goals as goal
 
 frame_of : (came : Result Frame ClientFault) (Is : Frame → Type 0)

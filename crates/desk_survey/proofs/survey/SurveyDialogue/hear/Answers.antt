@@ -8,11 +8,9 @@ returns-clause-leads c = record {
   heard = c.hear-heard.result;
   after = c.hear-heard.new.self;
   hears =
-      subst
-      (λ (s : SurveyOf). HearsOver c.hear-heard.result c.args.piece.now s.line
+      subst (λ (s : SurveyOf). HearsOver c.hear-heard.result c.args.piece.now s.line
       c.hear-heard.new.self) c.self.view_is c.hear-heard.ensures;
   follows =
-      subst
-      (λ (s : SurveyOf). Follows c.hear-heard.result c.follow.result c.args.now
+      subst (λ (s : SurveyOf). Follows c.hear-heard.result c.follow.result c.args.now
       (with_line s c.hear-heard.new.self) c.follow.new.self) c.self.view_is c.follow.ensures;
 }

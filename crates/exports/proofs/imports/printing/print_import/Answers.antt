@@ -17,20 +17,16 @@ returns-in-Err g c = record {
 
 pub returns-in-Ok-write_text-clause-ok : goal.returns-in-Ok-write_text-clause-ok
 returns-in-Ok-write_text-clause-ok g c =
-    let done =
-    imported c.args.options _ c.in-Ok.bytes.items c.deref.result.now
+    let done = imported c.args.options _ c.in-Ok.bytes.items c.deref.result.now
     c.in-Ok-import_file.made.commands.items c.in-Ok-import_file.made.later.items
     c.deref-2.result.now c.in-Ok.ensures c.deref.ensures.value c.in-Ok-import_file.ensures.ok
-    c.in-Ok-import_file.ensures.later
-    (c.deref-2.ensures.value ∙ c.in-Ok-print_imported.ensures) in
+    c.in-Ok-import_file.ensures.later (c.deref-2.ensures.value ∙ c.in-Ok-print_imported.ensures) in
     (c.in-Ok.bytes.items, c.deref-2.result.now, done.0, done.1, c.in-Ok-write_text.ensures.ok)
 
 pub returns-clause-err : goal.returns-clause-err
 returns-clause-err g c =
-    let done =
-    imported c.args.options _ c.in-Ok.bytes.items c.deref.result.now
+    let done = imported c.args.options _ c.in-Ok.bytes.items c.deref.result.now
     c.in-Ok-import_file.made.commands.items c.in-Ok-import_file.made.later.items
     c.deref-2.result.now c.in-Ok.ensures c.deref.ensures.value c.in-Ok-import_file.ensures.ok
-    c.in-Ok-import_file.ensures.later
-    (c.deref-2.ensures.value ∙ c.in-Ok-print_imported.ensures) in
+    c.in-Ok-import_file.ensures.later (c.deref-2.ensures.value ∙ c.in-Ok-print_imported.ensures) in
     (c.in-Ok.bytes.items, c.deref-2.result.now, done.0, done.1, c.in-Err-write_text.ensures.err)

@@ -8,8 +8,6 @@ returns-in-Ok g c =
     let remaining = g.R.Read.remaining in
     front_of (remaining c.args.reader) c.take.result.limit c.new-bytes.result.items
     c.read_to_end.new.buf.items c.new-bytes.ensures.items c.take.ensures.limit
-    (subst
-    (λ r.
-    IfSome (option_map (take c.take.result.limit) (remaining r))
-    (λ xs. c.read_to_end.new.buf.items ≡ c.new-bytes.result.items ++ xs))
-    c.take.ensures.inner c.in-Ok.ensures.bytes)
+    (subst (λ r. IfSome (option_map (take c.take.result.limit) (remaining r))
+    (λ xs. c.read_to_end.new.buf.items ≡ c.new-bytes.result.items ++ xs)) c.take.ensures.inner
+    c.in-Ok.ensures.bytes)

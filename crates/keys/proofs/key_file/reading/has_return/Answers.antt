@@ -1,9 +1,7 @@
 use Rattle.std.proofs.Common.{◌≡◌, ◌∷◌, [], ◌++◌, Some, ◌∙◌, sym}
-use Rattle.std.proofs.lemmas.Bool.Decides.{Decides-eqb}
-use Rattle.std.proofs.lemmas.Slice.Eq.{strip_suffix_is}
+use Rattle.std.proofs.lemmas.{Bool.Decides.Decides-eqb, Slice.Eq.strip_suffix_is}
 use Rattle.std.specs.Prelude.{◌↔◌, IsTrue}
-use Rattle.keys.specs.key_file.KeyFiles.{IsKeyText}
-use Rattle.keys.proofs.key_file.Fronts.{return_is}
+use Rattle.keys.{specs.key_file.KeyFiles.IsKeyText, proofs.key_file.Fronts.return_is}
 use Rattle.keys.proofs.key_file.reading.has_return.Goals as goal
 
 pub returns-in-Some : goal.returns-in-Some

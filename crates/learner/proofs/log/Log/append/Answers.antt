@@ -1,10 +1,9 @@
 use Rattle.std.proofs.Common.{◌≡◌, ◌<◌, ℕ, Bool, false, true, ◌++◌, ◌∷◌, [], Result, Ok, Err}
 use Rattle.std.proofs.Common.{is_some, nat_eq, length, sym, ◌∙◌, subst, arith, IsOk, OnOk}
-use Rattle.std.proofs.lemmas.Grind.{common_steps}
-use Rattle.std.specs.HashMap.{get, spare}
+use Rattle.std.{proofs.lemmas.Grind.common_steps, specs.HashMap.get, specs.HashMap.spare}
 use Rattle.learner.proofs.Positions.{indexed_again, indexed_new}
-use Rattle.learner.proofs.log.Log.append.Goals as goal
 use Rattle.learner.proofs.log.Log.append.Goals.{then-not-contains_key, else-not-contains_key}
+use Rattle.learner.proofs.log.Log.append.Goals as goal
 
 at_ok : {A E : Type 0} (r : Result A E) {P : Type 0} → IsOk r → OnOk r P → P
 at_ok (Ok x) i h = h

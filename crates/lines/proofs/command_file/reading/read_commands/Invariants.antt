@@ -1,7 +1,5 @@
 use Rattle.std.proofs.Common.{◌≡◌, List, ℕ, ◌-◌}
-use Rattle.lines.specs.Lines.{lines_of}
-use Rattle.lines.specs.Reading.{HasGiven}
-use Rattle.lines.specs.command_file.Commands.{commands_from}
+use Rattle.lines.specs.{Lines.lines_of, Reading.HasGiven, command_file.Commands.commands_from}
 use Rattle.lines.proofs.command_file.reading.read_commands.Given as goal
 
 -- the commands of the lines that were given

@@ -1,11 +1,9 @@
 use Rattle.std.proofs.Common.{rules, ◌≡◌, sym, true, false, length, ◌==◌, ◌++◌, ◌∷◌, [], Err, subst}
-use Rattle.std.proofs.Common.{arith}
-use Rattle.std.proofs.lemmas.Bool.Decides.{nat_tests}
-use Rattle.lines.specs.declared.fault.RunFault.TheVariants as run_fault
+use Rattle.std.proofs.{Common.arith, lemmas.Bool.Decides.nat_tests}
 use Rattle.lines.specs.Reading.{has_room, Gives, IsBroken}
 use Rattle.lines.proofs.Given.{Midway, byte_is, is_above, ends_line, goes_on, starves, room_lines}
-use Rattle.lines.proofs.Given.{is_broken, ends_within}
-use Rattle.lines.proofs.Runs.{run_on, still_going}
+use Rattle.lines.proofs.{Given.is_broken, Given.ends_within, Runs.run_on, Runs.still_going}
+use Rattle.lines.specs.declared.fault.RunFault.TheVariants as run_fault
 use Rattle.lines.proofs.line_reader.LineReader.read_line.Goals as goal
 
 pub returns-then-not-count_byte : goal.returns-then-not-count_byte
@@ -15,8 +13,7 @@ returns-then-not-count_byte g c = λ given start h.
     let t = byte_is c.take_run.new.self c.next_byte.new.self c.in_ok-byte.field-0 c.in-Some.byte _ _
     c.in-Some.is c.in_ok-byte.ensures.ok in
     let room : has_room c.next_byte.new.self.bytes c.next_byte.new.self.lines
-    (length c.take_run.new.line.items) c.in-Some.byte
-    ≡ false = search rules in (
+    (length c.take_run.new.line.items) c.in-Some.byte ≡ false = search rules in (
       c.take_run.new.line.items ++ c.in-Some.byte ∷ c.next_byte.new.self.held,
       is_above c.take_run.new.self c.next_byte.new.self c.take_run.new.line.items given
           c.in-Some.byte start _ _ m t room,
@@ -29,8 +26,7 @@ returns-then-byte-eq10 g c = λ given start h.
     let t = byte_is c.take_run.new.self c.next_byte.new.self c.in_ok-byte.field-0 c.in-Some.byte _ _
     c.in-Some.is c.in_ok-byte.ensures.ok in
     let room : has_room c.next_byte.new.self.bytes c.next_byte.new.self.lines
-    (length c.take_run.new.line.items) c.in-Some.byte
-    ≡ true = search rules in
+    (length c.take_run.new.line.items) c.in-Some.byte ≡ true = search rules in
     let feed : (c.in-Some.byte == 10) ≡ true = grind (arith, nat_tests) in
     rw (c.count_line.ensures, c.count_byte.ensures.counted c.if-not-count_byte.false)
     (ends_line c.take_run.new.self c.next_byte.new.self c.take_run.new.line.items given
@@ -41,8 +37,7 @@ loop-self-preserved g c =
     let t = byte_is c.take_run.new.self c.next_byte.new.self c.in_ok-byte.field-0 c.in-Some.byte _ _
     c.in-Some.is c.in_ok-byte.ensures.ok in
     let room : has_room c.next_byte.new.self.bytes c.next_byte.new.self.lines
-    (length c.take_run.new.line.items) c.in-Some.byte
-    ≡ true = search rules in
+    (length c.take_run.new.line.items) c.in-Some.byte ≡ true = search rules in
     let feed : (c.in-Some.byte == 10) ≡ false = grind (arith, nat_tests) in
     let pushed : c.push.new.self.items ≡ c.take_run.new.line.items ++ c.in-Some.byte ∷ [] =
     search rules in
@@ -52,19 +47,15 @@ loop-self-preserved g c =
           λ given start h.
           rw (counted, pushed)
           (goes_on c.take_run.new.self c.next_byte.new.self c.take_run.new.line.items given
-          c.in-Some.byte start _ _
-          (run_on _ _ _ _ given start _ c.in_ok-take_run.ensures.ok
-          (c.loop-self.invariant.midway given start h))
-          t room feed);
+          c.in-Some.byte start _ _ (run_on _ _ _ _ given start _ c.in_ok-take_run.ensures.ok
+          (c.loop-self.invariant.midway given start h)) t room feed);
       going =
-          rw counted
-          (still_going c.loop-self.self c.take_run.new.self c.next_byte.new.self
+          rw counted (still_going c.loop-self.self c.take_run.new.self c.next_byte.new.self
           c.loop-self.line.items c.take_run.new.line.items c.in-Some.byte _ _
           c.in_ok-take_run.ensures.ok t c.loop-self.invariant.going);
       few =
           λ _.
-          rw counted
-          (room_lines c.next_byte.new.self.bytes c.next_byte.new.self.lines
+          rw counted (room_lines c.next_byte.new.self.bytes c.next_byte.new.self.lines
           (length c.take_run.new.line.items) c.in-Some.byte room);
     }
 
@@ -89,10 +80,8 @@ returns-in_err-byte g c = λ given start h.
     (g.R.Read.remaining c.loop-self.reader) (g.R.Read.remaining c.next_byte.new.reader) m
     c.in_err-byte.ensures.held c.in_err-byte.ensures.kept in
     let is : c.from_residual-in_err-byte.result ≡ Err run_fault.Read = search rules in
-    subst
-    (λ r. Gives r c.next_byte.new.self c.take_run.new.line.items given start
-    (g.R.Read.remaining c.next_byte.new.reader))
-    (sym is) (c.take_run.new.line.items, broken)
+    subst (λ r. Gives r c.next_byte.new.self c.take_run.new.line.items given start
+    (g.R.Read.remaining c.next_byte.new.reader)) (sym is) (c.take_run.new.line.items, broken)
 
 pub returns : goal.returns
 returns g c = λ given start h.

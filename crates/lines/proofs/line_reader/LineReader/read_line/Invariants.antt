@@ -1,6 +1,5 @@
 use Rattle.std.proofs.Common.{◌≡◌, List, ℕ, Option, length, false, ◌-◌, ◌<◌}
-use Rattle.lines.specs.Reading.{HasGiven}
-use Rattle.lines.proofs.Given.{Midway}
+use Rattle.lines.{specs.Reading.HasGiven, proofs.Given.Midway}
 use Rattle.lines.proofs.line_reader.LineReader.read_line.Given as goal
 
 -- the bytes after the lines that were given are those of the line so far

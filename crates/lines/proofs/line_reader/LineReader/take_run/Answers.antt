@@ -1,7 +1,6 @@
 use Rattle.std.proofs.Common.{rules, ◌≡◌, ◌≤◌, ◌<◌, ◌+◌, ◌-◌, ◌++◌, List, ℕ, ◌∙◌, ap, sym, take}
 use Rattle.std.proofs.Common.{drop, drop-drop, length, slice_index, subst, arith}
-use Rattle.lines.specs.Reading.{Reading}
-use Rattle.lines.specs.model.Stepping.{IsRoomFor}
+use Rattle.lines.specs.{Reading.Reading, model.Stepping.IsRoomFor}
 use Rattle.lines.proofs.Runs.{held_front, takes}
 use Rattle.lines.proofs.line_reader.LineReader.take_run.Goals as goal
 

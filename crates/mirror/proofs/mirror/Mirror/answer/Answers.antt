@@ -1,7 +1,6 @@
 use Rattle.std.proofs.Common.{ap, ◌∙◌, List}
 use Rattle.acceptor.specs.declared.entry.Entry.{Entry}
-use Rattle.answers.specs.Transcripts.{answer_at}
-use Rattle.answers.proofs.Transcripts.{answered}
+use Rattle.answers.{specs.Transcripts.answer_at, proofs.Transcripts.answered}
 use Rattle.mirror.proofs.mirror.Mirror.answer.Goals as goal
 
 pub returns : goal.returns

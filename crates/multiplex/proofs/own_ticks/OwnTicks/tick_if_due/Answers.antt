@@ -1,7 +1,6 @@
 use Rattle.std.proofs.Common.{sym, ap, subst, inr, ◌∙◌, ◌||◌}
 use Rattle.serving.specs.OwnTicks.{sides_alone}
-use Rattle.multiplex.specs.Passing.{TicksBy}
-use Rattle.multiplex.proofs.Looking.{own_same, ticks_by}
+use Rattle.multiplex.{specs.Passing.TicksBy, proofs.Looking.own_same, proofs.Looking.ticks_by}
 use Rattle.multiplex.proofs.own_ticks.OwnTicks.tick_if_due.Goals as goal
 
 pub returns-clause-ticks : goal.returns-clause-ticks

@@ -1,8 +1,6 @@
-use Rattle.std.proofs.Common.{◌≡◌, ◌+◌, ℕ, sym, ap, ◌∙◌, subst, arith, false, None}
-use Rattle.std.specs.Prelude.{nat_eq}
-use Rattle.indexmap.specs.IndexMap.{insert_entry}
+use Rattle.std.proofs.Common.{◌≡◌, ◌+◌, ℕ, sym, ◌∙◌, subst, arith, false, None}
 use Rattle.outbox.specs.Items.{ItemsOf, is_full, item_in, taken_at}
-use Rattle.outbox.proofs.Listed.{bounds_more, none_known, put_last, restored_more}
+use Rattle.outbox.proofs.Listed.{bounds_more, none_known, put_is, restored_more}
 use Rattle.outbox.proofs.items.Items.restore.Goals as goal
 
 pub invariant_of-self-2 : goal.invariant_of-self-2
@@ -18,11 +16,8 @@ invariant_of-self-2 c =
     subst (λ (q : ItemsOf). is_full q ≡ false) (sym c.self.view_is)
     (sym c.is_full.ensures ∙ c.if-is_full.false) in
     let put =
-    c.in_ok-_old.ensures.entries
-    ∙ ap
-    (λ (id : ℕ). insert_entry nat_eq old.items.entries id (taken_at c.args.entry c.args.now))
-    c.id-id.ensures.id
-    ∙ put_last c.args.entry.id (taken_at c.args.entry c.args.now) old.items.entries none in
+    put_is old.items.entries _ _ _ (taken_at c.args.entry c.args.now) c.in_ok-_old.ensures.entries
+    c.id-id.ensures.id none in
     bounds_more old.items.entries c.insert.new.self.entries old.kept (old.kept + 1) old.lines.items
     old.lines.items old.answered.keys c.args.entry c.args.now c.self.invariant room put
     (omega arith)
@@ -36,11 +31,8 @@ returns c =
     let new = subst (λ (id : ℕ). item_in c.args.self.now id ≡ None) c.id.ensures.id known in
     let none = subst (λ (q : ItemsOf). item_in q c.args.entry.id ≡ None) (sym c.self.view_is) new in
     let put =
-    c.in_ok-_old.ensures.entries
-    ∙ ap
-    (λ (id : ℕ). insert_entry nat_eq old.items.entries id (taken_at c.args.entry c.args.now))
-    c.id-id.ensures.id
-    ∙ put_last c.args.entry.id (taken_at c.args.entry c.args.now) old.items.entries none in
+    put_is old.items.entries _ _ _ (taken_at c.args.entry c.args.now) c.in_ok-_old.ensures.entries
+    c.id-id.ensures.id none in
     restored_more c.args.self.now c.args.entry c.args.now old.items.entries
     c.insert.new.self.entries old.kept old.lines.items old.answered.keys c.self.view_is new
     (sym c.is_full.ensures ∙ c.if-is_full.false) put

@@ -9,10 +9,8 @@ returns-then-ask c =
     let seen : OutboxOf =
     outbox i.items i.seen i.decided.keys i.hall i.desk i.aim i.line i.next i.refusal in
     let line = c.ask.new.self in
-    subst
-    (λ (o : OutboxOf). AsksNext (kept_from o.list o.next) c.args.now o (with_line seen line))
+    subst (λ (o : OutboxOf). AsksNext (kept_from o.list o.next) c.args.now o (with_line seen line))
     c.self.view_is
     (asks_next c.ask.result c.args.now c.in-Some.entry c.submit_request-request.result seen line
-    c.if-ask.true
-    (subst (λ (o : OutboxOf). o.next < o.list.kept) (sym c.self.view_is) c.requires)
+    c.if-ask.true (subst (λ (o : OutboxOf). o.next < o.list.kept) (sym c.self.view_is) c.requires)
     c.in-Some.ensures c.submit_request-request.ensures.request c.ask.ensures)

@@ -1,6 +1,5 @@
 use Rattle.std.proofs.Common.{sym, ap, ◌∙◌, arith}
-use Rattle.outbox.specs.Outboxes.{OutboxOf, looked_at}
-use Rattle.outbox.proofs.Looking.{looked_next}
+use Rattle.outbox.{specs.Outboxes.OutboxOf, specs.Outboxes.looked_at, proofs.Looking.looked_next}
 use Rattle.outbox.proofs.outbox.Outbox.look.Goals as goal
 
 pub loop-position-preserved : goal.loop-position-preserved

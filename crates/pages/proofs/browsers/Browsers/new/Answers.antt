@@ -1,6 +1,5 @@
 use Rattle.std.proofs.Common.{subst, sym}
-use Rattle.pages.specs.Browsers.{IsUntold}
-use Rattle.pages.specs.Kept.{places_of}
+use Rattle.pages.specs.{Browsers.IsUntold, Kept.places_of}
 use Rattle.pages.proofs.Tables.{AreKept-first, no_entry}
 use Rattle.pages.proofs.browsers.Browsers.new.Goals as goal
 

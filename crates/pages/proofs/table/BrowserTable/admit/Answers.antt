@@ -12,8 +12,7 @@ returns-clause-asks g c =
     let mid = c.make_room.new.self in
     let new = c.accept.new.self in
     asks_both g.C.Sockets.requests t.sockets mid.sockets new.sockets (MakesRoom t mid)
-    (Accepts mid new) (Admits t new)
-    (λ xs ys h k. record {
+    (Accepts mid new) (Admits t new) (λ xs ys h k. record {
       mid = mid;
       first = xs;
       room = h;
@@ -22,5 +21,4 @@ returns-clause-asks g c =
       more = ys;
       accepts = k;
       all = refl;
-    })
-    c.make_room.ensures.asks c.accept.ensures.asks
+    }) c.make_room.ensures.asks c.accept.ensures.asks

@@ -1,7 +1,5 @@
 use Rattle.polled.specs.Happenings.{closed}
-use Rattle.pages.specs.Kept.{places_of}
-use Rattle.pages.proofs.Keeping.{AreKept-same}
-use Rattle.pages.proofs.Tables.{quiet_closed}
+use Rattle.pages.{specs.Kept.places_of, proofs.Keeping.AreKept-same, proofs.Tables.quiet_closed}
 use Rattle.pages.proofs.table.BrowserTable.close.Goals as goal
 
 pub returns-clause-kept : goal.returns-clause-kept

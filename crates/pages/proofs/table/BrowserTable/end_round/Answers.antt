@@ -1,8 +1,6 @@
 use Rattle.std.proofs.Common.{◌≡◌, true, refl, subst, ◌∙◌}
-use Rattle.pages.specs.Asking.{EndsSome, LetsGo}
-use Rattle.pages.specs.Waiting.{is_late}
-use Rattle.pages.proofs.Asked.{asks_both, asks_none}
-use Rattle.pages.proofs.Ending.{ends_more, ends_none}
+use Rattle.pages.specs.{Asking.EndsSome, Asking.LetsGo, Waiting.is_late}
+use Rattle.pages.proofs.{Asked.asks_both, Asked.asks_none, Ending.ends_more, Ending.ends_none}
 use Rattle.pages.proofs.table.BrowserTable.end_round.Goals as goal
 
 pub loop-number-init : goal.loop-number-init
@@ -40,6 +38,5 @@ loop-number-preserved g c =
           (λ xs ys h k. ends_more now t at.self new c.in-Some.number late.0 xs ys h late.1
           (subst (λ time. is_late time t.terms.patience late.0.waiting ≡ true) before.time
           (subst (λ terms. is_late at.self.now terms.patience late.0.waiting ≡ true) before.terms
-          late.2)) k)
-          before.asks went.asks;
+          late.2)) k) before.asks went.asks;
     }

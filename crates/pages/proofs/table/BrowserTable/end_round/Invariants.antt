@@ -1,7 +1,6 @@
 use Rattle.std.proofs.Common.{◌≡◌}
 use Rattle.indexmap.specs.IndexMap.{index_map_len}
-use Rattle.pages.specs.Asking.{EndsSome}
-use Rattle.pages.specs.Kept.{Keeps}
+use Rattle.pages.specs.{Asking.EndsSome, Kept.Keeps}
 use Rattle.polled.specs.Requests.{Asks}
 use Rattle.pages.proofs.table.BrowserTable.end_round.Given as goal
 

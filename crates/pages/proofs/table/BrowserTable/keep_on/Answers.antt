@@ -1,12 +1,10 @@
 use Rattle.std.proofs.Common.{[], ◌∷◌, ap, nat_eq, refl, ◌∙◌}
 use Rattle.http_server.specs.Connection.{history}
 use Rattle.indexmap.specs.IndexMap.{get}
-use Rattle.pages.specs.Kept.{places_of}
-use Rattle.pages.specs.Musts.{has_more}
-use Rattle.polled.specs.Requests.{Watching}
+use Rattle.pages.specs.{Kept.places_of, Musts.has_more}
+use Rattle.polled.specs.{Requests.Watching, Happenings.watched}
 use Rattle.pages.proofs.Keeping.{AreKept-fewer, AreKept-more, IsOpen-same}
 use Rattle.pages.proofs.Placing.{has_some_is, unchanged}
-use Rattle.polled.specs.Happenings.{watched}
 use Rattle.pages.proofs.Tables.{holds_on, other_places, quiet_watched, same_places}
 use Rattle.pages.proofs.table.BrowserTable.keep_on.Goals as goal
 
@@ -45,8 +43,7 @@ returns-clause-kept g c = λ own held.
 pub returns-then-not-watch-clause-asks : goal.returns-then-not-watch-clause-asks
 returns-then-not-watch-clause-asks g c =
     let k = c.args.number in
-    let is =
-    has_some_is (history c.args.browser.connection).pending c.wants_write-writes.result
+    let is = has_some_is (history c.args.browser.connection).pending c.wants_write-writes.result
     c.wants_write-writes.ensures in (
       Watching k c.wants_write-writes.result c.watch.result ∷ [],
       c.watch.ensures.requests,
@@ -58,8 +55,7 @@ returns-in-Ok-clause-asks g c =
     let t = c.args.self.now in
     let k = c.args.number in
     let updates = c.in-Ok.ensures.updates in
-    let is =
-    has_some_is (history c.args.browser.connection).pending c.wants_write-writes.result
+    let is = has_some_is (history c.args.browser.connection).pending c.wants_write-writes.result
     c.wants_write-writes.ensures in (
       Watching k c.wants_write-writes.result c.watch.result ∷ [],
       c.watch.ensures.requests,
@@ -74,8 +70,7 @@ pub returns-clause-asks : goal.returns-clause-asks
 returns-clause-asks g c =
     let t = c.args.self.now in
     let k = c.args.number in
-    let is =
-    has_some_is (history c.args.browser.connection).pending c.wants_write-writes.result
+    let is = has_some_is (history c.args.browser.connection).pending c.wants_write-writes.result
     c.wants_write-writes.ensures in (
       Watching k c.wants_write-writes.result c.watch.result ∷ [],
       c.watch.ensures.requests,

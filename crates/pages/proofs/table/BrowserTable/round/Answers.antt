@@ -1,9 +1,8 @@
 use Rattle.std.proofs.Common.{◌+◌, arith, append-nil, inl, inr, refl, subst, ◌∙◌, None, Some, []}
-use Rattle.pages.specs.Asking.{AsksSteps, StepsBy}
-use Rattle.pages.specs.Musts.{AsksRound}
-use Rattle.pages.specs.declared.table.Step.TheVariants as step_is
+use Rattle.pages.specs.{Asking.AsksSteps, Asking.StepsBy, Musts.AsksRound}
 use Rattle.pages.proofs.Answering.{Answers-same, Answers-then}
 use Rattle.pages.proofs.Asked.{asks_as, asks_both, asks_none, round_ends, steps_more, steps_none}
+use Rattle.pages.specs.declared.table.Step.TheVariants as step_is
 use Rattle.pages.proofs.table.BrowserTable.round.Goals as goal
 
 pub loop-turn-init : goal.loop-turn-init
@@ -87,8 +86,7 @@ returns-clause-asks g c =
     let at = c.loop-turn in
     let wait = c.args.wait in
     asks_as g.C.Sockets.requests t.sockets at.self.sockets (AsksSteps wait at._turn t at.self)
-    (AsksRound wait None t at.self)
-    (λ xs h. subst (λ z. AsksRound wait None t at.self z) (append-nil xs)
-    (round_ends wait at._turn None t at.self at.self xs [] h
+    (AsksRound wait None t at.self) (λ xs h. subst (λ z. AsksRound wait None t at.self z)
+    (append-nil xs) (round_ends wait at._turn None t at.self at.self xs [] h
     (λ n is. inr (omega (arith, is, c.loop-turn-test.false, at.auto._turn-end), refl, refl))))
     at.invariant.asks

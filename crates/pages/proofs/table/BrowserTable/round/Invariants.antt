@@ -1,6 +1,5 @@
 use Rattle.std.proofs.Common.{◌≡◌}
-use Rattle.pages.specs.Asking.{AsksSteps}
-use Rattle.pages.specs.Kept.{AnswersIn, Keeps}
+use Rattle.pages.specs.{Asking.AsksSteps, Kept.AnswersIn, Kept.Keeps}
 use Rattle.polled.specs.Requests.{Asks}
 use Rattle.pages.proofs.table.BrowserTable.round.Given as goal
 

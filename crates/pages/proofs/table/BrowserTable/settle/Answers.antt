@@ -1,10 +1,8 @@
-use Rattle.std.proofs.Common.{◌≡◌, [], ◌∷◌, ◌++◌, List, false, inr, ap, subst, sym, ◌∙◌}
-use Rattle.std.proofs.Common.{nat_eq}
+use Rattle.std.proofs.Common.{◌≡◌, [], ◌∷◌, ◌++◌, List, false, inr, ap, subst, sym, ◌∙◌, nat_eq}
 use Rattle.indexmap.specs.IndexMap.{get}
 use Rattle.pages.specs.Asking.{KeepsOn, SettlesBy}
-use Rattle.pages.specs.Musts.{has_more}
+use Rattle.pages.{specs.Musts.has_more, proofs.Asked.asks_both}
 use Rattle.polled.specs.Requests.{Closing, Request, Watching}
-use Rattle.pages.proofs.Asked.{asks_both}
 use Rattle.pages.proofs.table.BrowserTable.settle.Goals as goal
 
 pub returns-clause-kept : goal.returns-clause-kept

@@ -1,15 +1,10 @@
 use Rattle.std.proofs.Common.{List, ap, inr, nat_eq, refl, subst, sym, ◌∙◌}
 use Rattle.http_server.specs.Connection.{config_of, history}
 use Rattle.indexmap.specs.IndexMap.{get}
-use Rattle.pages.specs.Asking.{SettlesBy}
-use Rattle.pages.specs.Kept.{Holds, places_of}
-use Rattle.pages.specs.Musts.{Attends, Turns, turned_as}
-use Rattle.pages.specs.Turns.{Answers, Moved, Turn}
-use Rattle.pages.specs.Waiting.{goes_on}
-use Rattle.pages.proofs.Answering.{Answers-same, Answers-turn}
-use Rattle.pages.proofs.Asked.{asks_both}
-use Rattle.pages.proofs.Keeping.{AreKept-fewer}
-use Rattle.pages.proofs.Placing.{placed, settles_as, without}
+use Rattle.pages.specs.{Asking.SettlesBy, Kept.Holds, Kept.places_of, Turns.Moved, Waiting.goes_on}
+use Rattle.pages.specs.{Musts.Attends, Musts.Turns, Musts.turned_as, Turns.Answers, Turns.Turn}
+use Rattle.pages.proofs.{Answering.Answers-same, Answering.Answers-turn, Placing.without}
+use Rattle.pages.proofs.{Asked.asks_both, Keeping.AreKept-fewer, Placing.placed, Placing.settles_as}
 use Rattle.pages.proofs.Tables.{fewer_places, no_place, same_places, visited}
 use Rattle.pages.proofs.table.BrowserTable.visit.Goals as goal
 
@@ -35,17 +30,14 @@ returns-clause-kept g c = λ held.
     let turn = c.take_turn-turned in
     let happened = g.C.Sockets.happened in
     let updates = c.in-Some.ensures.updates in
-    let moved =
-    subst (λ goes. Moved k goes (happened t.sockets) (happened turn.new.sockets)
-    (history b.connection) (history turn.new.connection)) (sym c.goes_on.ensures)
-    turn.ensures.moved in
+    let moved = subst (λ goes. Moved k goes (happened t.sockets) (happened turn.new.sockets)
+    (history b.connection) (history turn.new.connection)) (sym c.goes_on.ensures) turn.ensures.moved
+    in
     visited t.terms.config (happened t.sockets) (happened turn.new.sockets) (places_of t)
-    (λ q. get nat_eq m q) t.next t.turns.items k b turn.new.connection
-    (sym c.in-Some.ensures.value) (fewer_places t.browsers m k updates)
-    (no_place t.browsers m k updates) turn.ensures.config held
-    (Holds happened c.settle.new.self) c.and-self.result.items c.and-self.ensures
-    c.goes_on.result moved
-    c.settle.ensures.kept c.settle.ensures.closed
+    (λ q. get nat_eq m q) t.next t.turns.items k b turn.new.connection (sym c.in-Some.ensures.value)
+    (fewer_places t.browsers m k updates) (no_place t.browsers m k updates) turn.ensures.config held
+    (Holds happened c.settle.new.self) c.and-self.result.items c.and-self.ensures c.goes_on.result
+    moved c.settle.ensures.kept c.settle.ensures.closed
 
 pub returns-clause-answers : goal.returns-clause-answers
 returns-clause-answers g c = λ held.
@@ -76,8 +68,7 @@ returns-clause-asks g c =
     let after = turned_as b later turn.result t.now in
     asks_both g.C.Sockets.requests t.sockets turn.new.sockets new.sockets
     (Turns k (config_of b.connection) (history b.connection) (history later) turn.result)
-    (SettlesBy k stood c.goes_on.result mid new) (Attends k t new)
-    (λ xs ys h s. inr (record {
+    (SettlesBy k stood c.goes_on.result mid new) (Attends k t new) (λ xs ys h s. inr (record {
       one = b;
       found = sym c.in-Some.ensures.value;
       later = later;
@@ -92,5 +83,4 @@ returns-clause-asks g c =
           c.after-browser.ensures
           (subst (λ goes. SettlesBy k stood goes mid new ys) c.goes_on.ensures s));
       all = refl;
-    }))
-    turn.ensures.asks c.settle.ensures.asks
+    })) turn.ensures.asks c.settle.ensures.asks

@@ -3,16 +3,13 @@ use Rattle.std.specs.List.{list_any}
 use Rattle.indexmap.specs.IndexMap.{set_value_at}
 use Rattle.attempts.specs.Attempts.{IsInRangeOf}
 use Rattle.formats.specs.Results.{is_better}
-use Rattle.rounds.specs.declared.kept.EntrantResult.{EntrantResult}
-use Rattle.rounds.specs.declared.kept_entrant.KeptEntrant.{KeptEntrant}
-use Rattle.rounds.specs.Tables.{Entrant, is_started_attempt}
-use Rattle.rounds.specs.model.Field.{Field}
+use Rattle.rounds.specs.{declared.kept.EntrantResult.EntrantResult, Tables.Entrant}
+use Rattle.rounds.specs.{Tables.is_started_attempt, declared.kept_entrant.KeptEntrant.KeptEntrant}
+use Rattle.rounds.specs.model.{Field.Field, PackedKeys.IsBelow}
 use Rattle.rounds.specs.model.KeptEntrants.{kept_of, recounted, passed_by, is_unfinished}
 use Rattle.rounds.specs.model.UpToDate.{field_of, entrants_of, no_result}
-use Rattle.rounds.proofs.Changing.{line_read, is_in_count, recounted_same, up_to_date_same}
-use Rattle.rounds.proofs.Changing.{up_to_date_after}
-use Rattle.rounds.proofs.Changing.{rows_changed}
-use Rattle.rounds.specs.model.PackedKeys.{IsBelow}
+use Rattle.rounds.proofs.{Passing.line_read, Changing.rows_changed}
+use Rattle.rounds.proofs.Changing.{is_in_count, recounted_same, up_to_date_same, up_to_date_after}
 use Rattle.rounds.proofs.PackedKeys.{packed_key_at, small_tie}
 use Rattle.rounds.proofs.entrants.Entrants.replace.Goals as goal
 
@@ -87,14 +84,11 @@ invariant_of-self c =
     (set_value_at (map (passed_by before.kept.key c.of-kept.result.key) es) i after)
     (set_value_at c.move_places-ahead.new.entrants.entries i after)
     (recounted c.self.inside.started (list_any is_started_attempt before.row)
-    (list_any is_started_attempt c.args.row))
-    c.recounted-self-inside.result
+    (list_any is_started_attempt c.args.row)) c.recounted-self-inside.result
     (recounted c.self.inside.unfinished (is_unfinished rules before.row)
-    (is_unfinished rules c.args.row))
-    c.recounted-self-inside-2.result
+    (is_unfinished rules c.args.row)) c.recounted-self-inside-2.result
     (recounted c.self.inside.with_result (is_better before.kept.key no_result)
-    (is_better c.of-kept.result.key no_result))
-    c.recounted-self-inside-3.result
+    (is_better c.of-kept.result.key no_result)) c.recounted-self-inside-3.result
     (ap (λ l. set_value_at l i after) (sym c.move_places-ahead.ensures.moved))
     (recounted_same c.self.inside.started c.has_started.result c.has_started-2.result _ _
     (c.has_started.ensures ∙ ap (list_any is_started_attempt) c.values-2.ensures.values)
@@ -111,11 +105,8 @@ invariant_of-self c =
     (rw (← c.self.view_is) at c.requires.few) (rw (← c.self.view_is) at c.requires.in_range)
     (ap (λ (k : EntrantResult). record k { place = 1 + c.recounted.result })
     (c.of-kept.ensures ∙ ap (λ vs. kept_of rules vs 0) c.values.ensures.values))
-    c.move_places-ahead.ensures.ahead
-    (ap (λ m. 1 + m)
-    (c.recounted.ensures ∙ ap
-    (λ b. recounted c.move_places-ahead.result b false) c.better-3.ensures))
-    (λ n. record {
+    c.move_places-ahead.ensures.ahead (ap (λ m. 1 + m) (c.recounted.ensures ∙ ap
+    (λ b. recounted c.move_places-ahead.result b false) c.better-3.ensures)) (λ n. record {
       packed_key = c.packed_key_of-packed_key.ensures.value;
       room =
           c.packed_key_of-packed_key.ensures.room;
@@ -130,8 +121,7 @@ returns c =
       kept = record c.of-kept.result { place = 1 + c.recounted.result };
       packed_key = c.packed_key_of-packed_key.result;
     } in
-    rw (← c.self.view_is)
-    (ap
+    rw (← c.self.view_is) (ap
     (λ (xs : List Entrant). let f : Field = record (field_of c.self.inside) { entrants = xs } in f)
     (ap (λ l. entrants_of (set_value_at l c.args.index after)) c.move_places-ahead.ensures.moved
     ∙ rows_changed before.kept.key c.of-kept.result.key c.self.inside.by_number.entries c.args.index

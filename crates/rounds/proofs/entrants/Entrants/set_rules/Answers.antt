@@ -1,9 +1,7 @@
 use Rattle.std.proofs.Common.{ap, refl, sym, subst, ◌∙◌}
 use Rattle.std.specs.List.{list_any}
 use Rattle.formats.specs.Results.{IsFormatOf}
-use Rattle.rounds.specs.Tables.{has_done}
-use Rattle.rounds.specs.declared.rules.Rules.{Rules}
-use Rattle.rounds.specs.model.Field.{Field}
+use Rattle.rounds.specs.{Tables.has_done, declared.rules.Rules.Rules, model.Field.Field}
 use Rattle.rounds.proofs.Leaving.{rows_empty, up_to_date_otherwise}
 use Rattle.rounds.proofs.entrants.Entrants.set_rules.Goals as goal
 
@@ -17,5 +15,4 @@ invariant_of-self c =
     (ap (λ (f : Field). list_any (has_done 1) f.entrants) c.self.view_is ∙ c.requires.none))
     c.requires.cutoff
     (subst (λ (f : Field). IsFormatOf f.rules.unit c.args.format) (sym c.self.view_is)
-    c.requires.format)
-    c.self.invariant
+    c.requires.format) c.self.invariant

@@ -1,7 +1,7 @@
 use Rattle.std.proofs.Common.{ap, sym, ◌∙◌}
 use Rattle.std.specs.List.{list_any}
-use Rattle.rounds.specs.Tables.{is_started_attempt}
-use Rattle.rounds.proofs.Changing.{line_read, is_in_count, recounted_same, started_after}
+use Rattle.rounds.{specs.Tables.is_started_attempt, proofs.Passing.line_read}
+use Rattle.rounds.proofs.Changing.{is_in_count, recounted_same, started_after}
 use Rattle.rounds.proofs.entrants.Entrants.started_with.Goals as goal
 
 pub recounted-requires-clause-counted : goal.recounted-requires-clause-counted
@@ -17,8 +17,7 @@ returns c =
     let es = c.self.inside.by_number.entries in
     let before = c.index-before.result.now in
     let line = line_read es c.args.index before c.index-before.ensures in
-    rw (← c.self.view_is)
-    (sym
+    rw (← c.self.view_is) (sym
     (recounted_same c.self.inside.started c.has_started.result c.has_started-2.result _ _
     (c.has_started.ensures ∙ ap (list_any is_started_attempt) c.values.ensures.values)
     c.has_started-2.ensures c.recounted.result c.recounted.ensures)

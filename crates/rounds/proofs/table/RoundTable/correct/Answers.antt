@@ -1,8 +1,7 @@
 use Rattle.std.proofs.Common.{◌-◌, slice_set, All, ap, sym, subst, ◌∙◌}
 use Rattle.std.proofs.lemmas.List.Elements.{All-set}
 use Rattle.attempts.specs.Attempts.{IsInRangeOf}
-use Rattle.rounds.specs.Tables.{replaced}
-use Rattle.rounds.proofs.TableCalls.{changed_table}
+use Rattle.rounds.{specs.Tables.replaced, proofs.TableCalls.changed_table}
 use Rattle.rounds.proofs.table.RoundTable.correct.Goals as goal
 
 pub replace-requires-clause-in_range : goal.replace-requires-clause-in_range
@@ -22,6 +21,5 @@ returns-clause-corrected c =
     (changed_table c.self.inside.closed c.self.inside.entrants c.replace.new.self c.args.number
     c.in-Some.index at c.row_at-row.result.now c.with_other-changed.result
     (replaced c.args.attempt c.args.value)
-    c.replace.ensures (c.row_at-row.ensures at.entrant at.there)
-    (c.with_other-changed.ensures
+    c.replace.ensures (c.row_at-row.ensures at.entrant at.there) (c.with_other-changed.ensures
     ∙ ap (λ k. slice_set c.row_at-row.result.now (k - 1) c.args.value) c.from-attempt.ensures))

@@ -1,6 +1,5 @@
 use Rattle.std.proofs.Common.{◌<◌, length, take, set, List, ap, sym, ◌∙◌, subst, arith}
-use Rattle.std.proofs.Math.Seq.{take-set-lt}
-use Rattle.std.proofs.lemmas.List.{length-take}
+use Rattle.std.proofs.{Math.Seq.take-set-lt, lemmas.List.length-take}
 use Rattle.attempts.specs.declared.Value.{Value}
 use Rattle.rounds.proofs.value_row.ValueRow.with_other.Goals as goal
 

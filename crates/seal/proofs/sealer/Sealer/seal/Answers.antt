@@ -1,5 +1,4 @@
-use Rattle.std.proofs.Common.{refl, arith}
-use Rattle.std.proofs.lemmas.Grind.{common_steps}
+use Rattle.std.proofs.{Common.refl, Common.arith, lemmas.Grind.common_steps}
 use Rattle.seal.specs.Records.{record_of}
 use Rattle.seal.proofs.sealer.Sealer.seal.Goals as goal
 

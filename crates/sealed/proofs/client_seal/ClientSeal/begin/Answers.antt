@@ -1,21 +1,14 @@
 use Rattle.std.proofs.Common.{ℕ, List, true, refl, sym, subst}
 use Rattle.std.proofs.lemmas.List.{take_rest}
-use Rattle.sealed.specs.ClientSeals.{ClientSealOf, Receives}
-use Rattle.sealed.specs.model.Opening.{OpensTo}
-use Rattle.sealed.proofs.Reaching.{receives_first, receives_unsealed}
+use Rattle.sealed.specs.{ClientSeals.ClientSealOf, ClientSeals.Receives, model.Opening.OpensTo}
+use Rattle.sealed.proofs.Reaching.{receives_first, receives_unsealed, caller_side}
 use Rattle.sealed.proofs.client_seal.ClientSeal.begin.Goals as goal
 
 pub returns-in-Unsealed-clause-receives : goal.returns-in-Unsealed-clause-receives
 returns-in-Unsealed-clause-receives c =
     let was = c.self.inside in
     let piece = c.args.piece.now in
-    let old : ClientSealOf = record {
-      key = was.key;
-      random = was.random;
-      held = was.front.items;
-      tunnel = was.tunnel;
-      unsealed = was.unsealed;
-    } in
+    let old = caller_side was.key was.random was.front.items was.tunnel was.unsealed in
     let mid : ClientSealOf = record old { held = c.hold-added.new.held.items } in
     let new : ClientSealOf = record mid { unsealed = true } in
     let unknown = rw (← c.self.view_is) at c.requires.unknown in
@@ -35,13 +28,7 @@ returns-in_ok-handed-in-Sealed-clause-receives c =
     let server = c.in-Sealed.random in
     let new = c.open.new.self in
     let more = c.in_ok-handed-in-Sealed.handed.items in
-    let old : ClientSealOf = record {
-      key = was.key;
-      random = was.random;
-      held = was.front.items;
-      tunnel = was.tunnel;
-      unsealed = was.unsealed;
-    } in
+    let old = caller_side was.key was.random was.front.items was.tunnel was.unsealed in
     let mid : ClientSealOf = record old { held = c.hold-added.new.held.items } in
     let unknown = rw (← c.self.view_is) at c.requires.unknown in
     let closed = rw (← c.self.view_is) at c.requires.closed in

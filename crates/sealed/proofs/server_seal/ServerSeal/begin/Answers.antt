@@ -1,9 +1,7 @@
-use Rattle.std.proofs.Common.{ℕ, List, refl, subst}
-use Rattle.std.proofs.lemmas.List.{take_rest}
-use Rattle.sealed.specs.ServerSeals.{ServerSealOf}
-use Rattle.sealed.specs.model.Steps.{OpensAs, Passes}
-use Rattle.sealed.proofs.Sending.{keeps_same}
-use Rattle.sealed.proofs.Standing.{stands_opened, stands_passed}
+use Rattle.std.proofs.{Common.ℕ, Common.List, Common.refl, Common.subst, lemmas.List.take_rest}
+use Rattle.sealed.specs.{ServerSeals.ServerSealOf, model.Steps.OpensAs, model.Steps.Passes}
+use Rattle.sealed.proofs.{Sending.keeps_same, Standing.stands_opened, Standing.stands_passed}
+use Rattle.sealed.proofs.Standing.{side_of}
 use Rattle.sealed.proofs.server_seal.ServerSeal.begin.Goals as goal
 
 pub returns-in_ok-passed-in-Unsealed-clause-receives :
@@ -14,14 +12,7 @@ returns-in_ok-passed-in-Unsealed-clause-receives c =
     let added = c.hold-added.result in
     let more = c.in_ok-passed-in-Unsealed.passed.items in
     let new = c.pass.new.self in
-    let old : ServerSealOf = record {
-      doors = was.doors;
-      random = was.random;
-      held = was.front.items;
-      passing = was.passing;
-      trial = was.trial;
-      refusal = was.refusal;
-    } in
+    let old = side_of was.doors was.random was.front.items was.passing was.trial was.refusal in
     let mid : ServerSealOf = record old { held = c.hold-added.new.held.items } in
     let unbroken = rw (← c.self.view_is) at c.requires.open in
     let untried = rw (← c.self.view_is) at c.requires.untried in
@@ -29,8 +20,7 @@ returns-in_ok-passed-in-Unsealed-clause-receives c =
     let front = rw c.deref.ensures.value at c.in-Unsealed.ensures in
     let passes = subst (λ (s : List ℕ). Passes s mid new more) (take_rest piece added)
     c.in_ok-passed-in-Unsealed.ensures.passes in
-    rw (← c.self.view_is)
-    (λ came handed h.
+    rw (← c.self.view_is) (λ came handed h.
     stands_passed old mid new came handed piece more added unbroken untried unknown unbroken
     untried unknown refl c.hold-added.ensures.held front passes h)
 
@@ -43,14 +33,7 @@ returns-in_ok-opened-in-Sealed-clause-receives c =
     let client = c.in-Sealed.random in
     let more = c.in_ok-opened-in-Sealed.opened.items in
     let new = c.open.new.self in
-    let old : ServerSealOf = record {
-      doors = was.doors;
-      random = was.random;
-      held = was.front.items;
-      passing = was.passing;
-      trial = was.trial;
-      refusal = was.refusal;
-    } in
+    let old = side_of was.doors was.random was.front.items was.passing was.trial was.refusal in
     let mid : ServerSealOf = record old { held = c.hold-added.new.held.items } in
     let unbroken = rw (← c.self.view_is) at c.requires.open in
     let untried = rw (← c.self.view_is) at c.requires.untried in
@@ -58,8 +41,7 @@ returns-in_ok-opened-in-Sealed-clause-receives c =
     let front = rw c.deref.ensures.value at c.in-Sealed.ensures in
     let opens = subst (λ (s : List ℕ). OpensAs mid.doors client s mid new more)
     (take_rest piece added) c.in_ok-opened-in-Sealed.ensures.opens in
-    rw (← c.self.view_is)
-    (λ came handed h.
+    rw (← c.self.view_is) (λ came handed h.
     stands_opened old mid new came handed piece client more added unbroken untried unknown
     unbroken refl c.hold-added.ensures.held front.0 front.1 opens h)
 
@@ -67,34 +49,15 @@ pub returns-in_ok-passed-in-Unsealed-clause-sends :
     goal.returns-in_ok-passed-in-Unsealed-clause-sends
 returns-in_ok-passed-in-Unsealed-clause-sends c =
     let was = c.self.inside in
-    let old : ServerSealOf = record {
-      doors = was.doors;
-      random = was.random;
-      held = was.front.items;
-      passing = was.passing;
-      trial = was.trial;
-      refusal = was.refusal;
-    } in
+    let old = side_of was.doors was.random was.front.items was.passing was.trial was.refusal in
     let mid : ServerSealOf = record old { held = c.hold-added.new.held.items } in
-    rw (← c.self.view_is)
-    (λ given sent h.
-    c.in_ok-passed-in-Unsealed.ensures.sends given sent
-    (keeps_same old mid refl refl given sent h))
+    rw (← c.self.view_is) (λ given sent h.
+    c.in_ok-passed-in-Unsealed.ensures.sends given sent (keeps_same old mid refl refl given sent h))
 
-pub returns-in_ok-opened-in-Sealed-clause-sends :
-    goal.returns-in_ok-opened-in-Sealed-clause-sends
+pub returns-in_ok-opened-in-Sealed-clause-sends : goal.returns-in_ok-opened-in-Sealed-clause-sends
 returns-in_ok-opened-in-Sealed-clause-sends c =
     let was = c.self.inside in
-    let old : ServerSealOf = record {
-      doors = was.doors;
-      random = was.random;
-      held = was.front.items;
-      passing = was.passing;
-      trial = was.trial;
-      refusal = was.refusal;
-    } in
+    let old = side_of was.doors was.random was.front.items was.passing was.trial was.refusal in
     let mid : ServerSealOf = record old { held = c.hold-added.new.held.items } in
-    rw (← c.self.view_is)
-    (λ given sent h.
-    c.in_ok-opened-in-Sealed.ensures.sends given sent
-    (keeps_same old mid refl refl given sent h))
+    rw (← c.self.view_is) (λ given sent h.
+    c.in_ok-opened-in-Sealed.ensures.sends given sent (keeps_same old mid refl refl given sent h))

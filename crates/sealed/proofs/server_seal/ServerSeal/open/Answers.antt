@@ -1,12 +1,9 @@
 use Rattle.std.proofs.Common.{refl, sym, subst, [], Some}
-use Rattle.sealed.specs.declared.callers.Access.{Access}
-use Rattle.sealed.specs.ServerSeals.{ServerSealOf, IsOfLocks}
-use Rattle.sealed.specs.Trials.{TrialOf, Tries}
-use Rattle.sealed.specs.model.Steps.{OpensAs}
-use Rattle.sealed.specs.Sent.{IsNew}
+use Rattle.sealed.specs.{declared.callers.Access.Access, Trials.TrialOf, Trials.Tries, Sent.IsNew}
+use Rattle.sealed.specs.{ServerSeals.ServerSealOf, ServerSeals.IsOfLocks, model.Steps.OpensAs}
 use Rattle.sealed.proofs.Fresh.{fresh_is_new, fresh_of_locks, tries_fresh}
-use Rattle.sealed.proofs.Sending.{is_new_still, keeps_opened}
-use Rattle.sealed.proofs.Standing.{of_locks}
+use Rattle.sealed.proofs.{Sending.is_new_still, Sending.keeps_opened, Standing.of_locks}
+use Rattle.sealed.proofs.Standing.{side_of}
 use Rattle.sealed.proofs.server_seal.ServerSeal.open.Goals as goal
 
 pub returns-clause-opens : goal.returns-clause-opens
@@ -16,14 +13,7 @@ returns-clause-opens c =
     let client = c.args.client.now in
     let rest = c.args.rest.now in
     let more = c.in_ok-handed.handed.items in
-    let old : ServerSealOf = record {
-      doors = was.doors;
-      random = was.random;
-      held = was.front.items;
-      passing = was.passing;
-      trial = was.trial;
-      refusal = was.refusal;
-    } in
+    let old = side_of was.doors was.random was.front.items was.passing was.trial was.refusal in
     let now : ServerSealOf = record old { trial = Some c.feed.new.self } in
     let began = subst (λ (t : TrialOf). IsOfLocks locks client was.random t)
     (sym c.in_ok-trial.ensures) (fresh_of_locks locks client was.random) in
@@ -41,14 +31,7 @@ returns-clause-sends c =
     let was = c.self.inside in
     let locks = c.in-Locked.locks in
     let client = c.args.client.now in
-    let old : ServerSealOf = record {
-      doors = was.doors;
-      random = was.random;
-      held = was.front.items;
-      passing = was.passing;
-      trial = was.trial;
-      refusal = was.refusal;
-    } in
+    let old = side_of was.doors was.random was.front.items was.passing was.trial was.refusal in
     let now : ServerSealOf = record old { trial = Some c.feed.new.self } in
     let untried = rw (← c.self.view_is) at c.requires.untried in
     let unknown = rw (← c.self.view_is) at c.requires.unknown in

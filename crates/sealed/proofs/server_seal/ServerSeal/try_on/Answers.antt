@@ -1,24 +1,15 @@
 use Rattle.std.proofs.Common.{refl, Some}
-use Rattle.sealed.specs.ServerSeals.{ServerSealOf}
-use Rattle.sealed.proofs.Sending.{keeps_caller, keeps_tried}
-use Rattle.sealed.proofs.Standing.{stands_tried}
+use Rattle.sealed.{specs.ServerSeals.ServerSealOf, proofs.Standing.stands_tried}
+use Rattle.sealed.proofs.{Sending.keeps_caller, Sending.keeps_tried, Standing.side_of}
 use Rattle.sealed.proofs.server_seal.ServerSeal.try_on.Goals as goal
 
 pub returns-clause-receives : goal.returns-clause-receives
 returns-clause-receives c =
     let was = c.self.inside in
-    let old : ServerSealOf = record {
-      doors = was.doors;
-      random = was.random;
-      held = was.front.items;
-      passing = was.passing;
-      trial = was.trial;
-      refusal = was.refusal;
-    } in
+    let old = side_of was.doors was.random was.front.items was.passing was.trial was.refusal in
     let new : ServerSealOf = record old { trial = Some c.feed.new.self } in
     let unbroken = rw (← c.self.view_is) at c.requires.open in
-    rw (← c.self.view_is)
-    (λ came handed h.
+    rw (← c.self.view_is) (λ came handed h.
     stands_tried old new c.in-Some.trial c.feed.new.self came handed c.args.piece.now
     c.in_ok-handed.handed.items unbroken unbroken c.in-Some.is refl refl refl
     c.in_ok-handed.ensures.same c.in_ok-handed.ensures.tries h)
@@ -26,31 +17,15 @@ returns-clause-receives c =
 pub returns-clause-sends : goal.returns-clause-sends
 returns-clause-sends c =
     let was = c.self.inside in
-    let old : ServerSealOf = record {
-      doors = was.doors;
-      random = was.random;
-      held = was.front.items;
-      passing = was.passing;
-      trial = was.trial;
-      refusal = was.refusal;
-    } in
+    let old = side_of was.doors was.random was.front.items was.passing was.trial was.refusal in
     let new : ServerSealOf = record old { trial = Some c.feed.new.self } in
-    rw (← c.self.view_is)
-    (keeps_tried old new c.in-Some.trial c.feed.new.self c.in-Some.is refl
+    rw (← c.self.view_is) (keeps_tried old new c.in-Some.trial c.feed.new.self c.in-Some.is refl
     c.in_ok-handed.ensures.same)
 
 pub returns-clause-stays : goal.returns-clause-stays
 returns-clause-stays c =
     let was = c.self.inside in
-    let old : ServerSealOf = record {
-      doors = was.doors;
-      random = was.random;
-      held = was.front.items;
-      passing = was.passing;
-      trial = was.trial;
-      refusal = was.refusal;
-    } in
+    let old = side_of was.doors was.random was.front.items was.passing was.trial was.refusal in
     let new : ServerSealOf = record old { trial = Some c.feed.new.self } in
-    rw (← c.self.view_is)
-    (keeps_caller old new c.in-Some.trial c.feed.new.self c.in-Some.is refl
+    rw (← c.self.view_is) (keeps_caller old new c.in-Some.trial c.feed.new.self c.in-Some.is refl
     c.in_ok-handed.ensures.same)

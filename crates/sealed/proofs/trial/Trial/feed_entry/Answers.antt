@@ -1,6 +1,5 @@
 use Rattle.std.proofs.Common.{Some, refl}
-use Rattle.sealed.specs.Trials.{TrialOf}
-use Rattle.sealed.proofs.Trying.{tries_entry, tries_no_entry}
+use Rattle.sealed.{specs.Trials.TrialOf, proofs.Trying.tries_entry, proofs.Trying.tries_no_entry}
 use Rattle.sealed.proofs.trial.Trial.feed_entry.Goals as goal
 
 pub returns-in_default-clause-tries : goal.returns-in_default-clause-tries
@@ -18,7 +17,6 @@ returns-clause-tries c =
     let new : TrialOf =
     record { hall = was.hall; entry = Some c.feed.new.self; holder = was.holder } in
     let is = rw (← c.self.view_is) at c.requires in
-    rw (← c.self.view_is)
-    (λ s x tries.
+    rw (← c.self.view_is) (λ s x tries.
     tries_entry old new c.in-Some.entry c.feed.new.self s x c.args.piece.now
     c.in_ok-handed.handed.items is is c.in-Some.is refl refl c.in_ok-handed.ensures.fed tries)

@@ -1,6 +1,5 @@
 use Rattle.std.proofs.Common.{Option, refl, sym, subst}
-use Rattle.sealed.specs.declared.callers.Holder.{Holder}
-use Rattle.sealed.specs.Trials.{SealsAs, TrialOf}
+use Rattle.sealed.specs.{declared.callers.Holder.Holder, Trials.SealsAs, Trials.TrialOf}
 use Rattle.sealed.proofs.trial.Trial.seal_hall.Goals as goal
 
 pub returns-clause-seals : goal.returns-clause-seals

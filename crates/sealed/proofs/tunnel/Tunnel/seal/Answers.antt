@@ -1,8 +1,7 @@
 use Rattle.std.proofs.Common.{[], ℕ, List, take, refl, sym, subst, ap, arith}
 use Rattle.std.proofs.lemmas.List.{take_all}
 use Rattle.seal.specs.Sealing.{Sealing}
-use Rattle.sealed.specs.Tunnels.{SealsAll}
-use Rattle.sealed.proofs.Sealings.{seals_more, seals_none}
+use Rattle.sealed.{specs.Tunnels.SealsAll, proofs.Sealings.seals_more, proofs.Sealings.seals_none}
 use Rattle.sealed.proofs.tunnel.Tunnel.seal.Goals as goal
 
 pub loop-start-init : goal.loop-start-init
@@ -60,8 +59,7 @@ pub returns-clause-few : goal.returns-clause-few
 returns-clause-few c =
     let before = c.loop-start.invariant in
     let all = c.loop-start-test.false in
-    rw (← c.self.view_is)
-    (record {
+    rw (← c.self.view_is) (record {
       grown = before.grown;
       enough = omega (arith, before.enough, all);
       few = omega (arith, before.few, before.within, all);

@@ -10,8 +10,7 @@ invariant-loop-start l = record {
       l.sent.items;
   opener : l.self-inside.opener ≡ l.initial.self-inside.opener;
   grown : l.initial.self-inside.sealer.number ≤ l.self-inside.sealer.number;
-  enough : l.start
-      ≤ 16384 * (l.self-inside.sealer.number - l.initial.self-inside.sealer.number);
+  enough : l.start ≤ 16384 * (l.self-inside.sealer.number - l.initial.self-inside.sealer.number);
   few : 16384 * (l.self-inside.sealer.number - l.initial.self-inside.sealer.number)
       < l.start + 16384;
   full : l.start < length l.bytes

@@ -1,6 +1,5 @@
 use Rattle.std.proofs.Common.{refl, sym, subst, arith, rules}
-use Rattle.serving.specs.Turns.{IsFree}
-use Rattle.serving.proofs.Turning.{advances_as, left_at}
+use Rattle.serving.{specs.Turns.IsFree, proofs.Turning.advances_as, proofs.Turning.left_at}
 use Rattle.serving.proofs.connection.Connection.advance.Goals as goal
 
 pub returns-in-Ok-clause-turn : goal.returns-in-Ok-clause-turn

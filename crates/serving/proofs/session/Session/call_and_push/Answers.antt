@@ -1,6 +1,6 @@
-use Rattle.serving.specs.Making.{speaking}
-use Rattle.serving.proofs.Parts.{given_err, part_after_call, part_at_call, part_pushes}
-use Rattle.serving.proofs.Reached.{does_call, pushes_all}
+use Rattle.std.proofs.Common.{[]}
+use Rattle.serving.{specs.Making.speaking, proofs.Reached.does_call, proofs.Reached.pushes_all}
+use Rattle.serving.proofs.Parts.{given_err, part_after_call, part_at_behind, part_pushes}
 use Rattle.serving.proofs.session.Session.call_and_push.Goals as goal
 
 pub returns-clause-ok : goal.returns-clause-ok
@@ -21,12 +21,10 @@ returns-clause-ok g c =
 pub returns-in_err-answer-clause-err : goal.returns-in_err-answer-clause-err
 returns-in_err-answer-clause-err g c =
     given_err c.from_residual.result
-    (part_at_call (speaking g.D.Desk.handles g.D.Desk.settles c.args.self.wire) c.args.self.home
-    (g.D.Desk.home_of c.args.node.now)
-    (g.D.Desk.seen c.args.node.now) (g.D.Desk.seen c.call.new.node) c.args.event
-    c.new-waiting.result.items c.args.node.now c.call.new.node
-    (g.P.Peers.handed c.args.peers.now)
-    c.requires.home c.new-waiting.ensures.items c.in_err-answer.ensures.err)
+    (part_at_behind (speaking g.D.Desk.handles g.D.Desk.settles c.args.self.wire) c.args.self.home
+    (g.D.Desk.home_of c.args.node.now) (g.D.Desk.seen c.args.node.now)
+    (g.D.Desk.seen c.call.new.node) c.args.event [] c.args.node.now c.call.new.node
+    (g.P.Peers.handed c.args.peers.now) c.requires.home c.in_err-answer.ensures.err)
 
 pub returns-in_err-push_all-clause-err : goal.returns-in_err-push_all-clause-err
 returns-in_err-push_all-clause-err g c =

@@ -1,8 +1,6 @@
 use Rattle.std.proofs.Common.{◌≡◌, rules, sym, subst, ◌∙◌, ◌+◌, ◌≤◌, [], length, arith}
-use Rattle.serving.specs.Making.{speaking}
+use Rattle.serving.{specs.Making.speaking, proofs.Delivered.loses_entry, proofs.Parts.given_err}
 use Rattle.serving.proofs.Delivered.{begins, delivered, next_entry, ends_down, ends_all}
-use Rattle.serving.proofs.Delivered.{loses_entry}
-use Rattle.serving.proofs.Parts.{given_err}
 use Rattle.serving.proofs.session.Session.deliver_each.Goals as goal
 
 pub loop-entry-init : goal.loop-entry-init
@@ -21,8 +19,7 @@ loop-entry-preserved g c =
     let home = c.args.self.home in
     let kept = c.loop-entry.invariant in
     let called = c.in_ok-call.ensures.ok in
-    let most = subst (λ z. c.loop-entry.pos + length z ≤ 65536) c.in-Some.ensures.items kept.most
-    in
+    let most = subst (λ z. c.loop-entry.pos + length z ≤ 65536) c.in-Some.ensures.items kept.most in
     record {
       range = rw (sym kept.home) c.call.ensures.in_range;
       home = c.call.ensures.home ∙ kept.home;

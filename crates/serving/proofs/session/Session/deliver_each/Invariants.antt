@@ -1,11 +1,8 @@
 use Rattle.std.proofs.Common.{◌≡◌, ◌+◌, ◌≤◌, List, Option, length}
 use Rattle.learner.specs.Ranges.{AreInRange}
 use Rattle.wire.specs.declared.values.Version.{Version}
-use Rattle.serving.specs.Adding.{Push}
-use Rattle.serving.specs.Making.{outside_of, speaking}
-use Rattle.serving.specs.model.Reaching.{at}
-use Rattle.serving.specs.Serving.{learn}
-use Rattle.serving.proofs.Delivered.{ComesSo}
+use Rattle.serving.specs.{Adding.Push, model.Reaching.at, Serving.learn}
+use Rattle.serving.{specs.Making.outside_of, specs.Making.speaking, proofs.Delivered.ComesSo}
 use Rattle.serving.proofs.session.Session.deliver_each.Given as goal
 
 -- what is to be done comes to what is left of it

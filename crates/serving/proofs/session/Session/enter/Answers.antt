@@ -1,13 +1,9 @@
 use Rattle.std.proofs.Common.{rules, ◌≡◌, refl, ap, ◌∙◌}
-use Rattle.wire.specs.declared.frame.FrameBody.TheVariants as what
-use Rattle.serving.specs.Answering.{answer_first}
-use Rattle.serving.specs.declared.calls.NodeAnswer.TheVariants.{Taken}
-use Rattle.serving.specs.Serving.{enter}
-use Rattle.serving.specs.declared.request.Request.TheVariants.{Entered}
-use Rattle.serving.proofs.Answered.{fails}
+use Rattle.serving.specs.{Answering.answer_first, declared.calls.NodeAnswer.TheVariants.Taken}
+use Rattle.serving.specs.{Serving.enter, declared.request.Request.TheVariants.Entered}
+use Rattle.serving.{proofs.Answered.fails, proofs.Parts.given_err, specs.Making.speaking}
 use Rattle.serving.proofs.Entering.{entered_lost, entered_part, entered_all, entered_not}
-use Rattle.serving.proofs.Parts.{given_err}
-use Rattle.serving.specs.Making.{speaking}
+use Rattle.wire.specs.declared.frame.FrameBody.TheVariants as what
 use Rattle.serving.proofs.session.Session.enter.Goals as goal
 
 pub returns-in_err-answer-clause-err : goal.returns-in_err-answer-clause-err
@@ -57,7 +53,6 @@ returns-clause-ok g c =
     c.in_ok-answer.answer c.answer_first-2.result
     c.args.node.now c.call.new.node (g.P.Peers.handed c.args.peers.now) _
     c.requires.home c.new-waiting.ensures.items c.in_ok-start.ensures.empty taken
-    c.in_ok-answer.ensures.ok c.in_ok-start.ensures.ok
-    (c.answer_first-2.ensures.what
+    c.in_ok-answer.ensures.ok c.in_ok-start.ensures.ok (c.answer_first-2.ensures.what
     ∙ ap (λ z. answer_first (what.Taken z) c.in_ok-answer.answer (g.D.Desk.seen c.start.new.node))
     c.id-id.ensures.id)

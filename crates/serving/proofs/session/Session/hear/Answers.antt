@@ -1,9 +1,7 @@
 use Rattle.std.proofs.Common.{refl}
 use Rattle.learner.specs.declared.event.DeskEvent.TheVariants.{Deliver}
-use Rattle.serving.specs.Serving.{take}
-use Rattle.serving.specs.declared.request.Request.TheVariants.{Heard}
-use Rattle.serving.proofs.Answered.{hears, fails}
-use Rattle.serving.proofs.Parts.{given_err}
+use Rattle.serving.specs.{Serving.take, declared.request.Request.TheVariants.Heard}
+use Rattle.serving.proofs.{Answered.hears, Answered.fails, Parts.given_err}
 use Rattle.serving.proofs.session.Session.hear.Goals as goal
 
 pub returns-clause-ok : goal.returns-clause-ok
@@ -15,5 +13,4 @@ pub returns-in_err-take-clause-err : goal.returns-in_err-take-clause-err
 returns-in_err-take-clause-err g c =
     given_err c.from_residual.result
     (fails c.args.self.home (take c.args.self.home (Deliver c.args.message))
-    (Heard c.args.message) _ _ _ _
-    (λ fates. refl) c.in_err-take.ensures.err)
+    (Heard c.args.message) _ _ _ _ (λ fates. refl) c.in_err-take.ensures.err)

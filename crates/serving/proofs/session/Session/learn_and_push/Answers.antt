@@ -1,8 +1,6 @@
-use Rattle.serving.specs.Making.{speaking}
-use Rattle.serving.specs.Serving.{learn}
+use Rattle.serving.{specs.Making.speaking, specs.Serving.learn, proofs.Reached.pushes_all}
 use Rattle.serving.proofs.Delivered.{pushes_then, pushes_part, delivers_part}
-use Rattle.serving.proofs.Parts.{on_err, given_err, part_pushes}
-use Rattle.serving.proofs.Reached.{on_ok, pushes_all}
+use Rattle.serving.proofs.{Parts.on_err, Parts.given_err, Parts.part_pushes, Reached.on_ok}
 use Rattle.serving.proofs.session.Session.learn_and_push.Goals as goal
 
 pub returns-in_err-deliver_each-clause-err : goal.returns-in_err-deliver_each-clause-err
@@ -19,8 +17,7 @@ returns-clause-ok g c =
     let r = c.args.run in
     let way = speaking g.D.Desk.handles g.D.Desk.settles c.args.self.wire in
     let y = g.D.Desk.seen c.deliver_each.new.node in
-    on_ok c.push_all.result
-    (λ pushed empty. pushes_then c.args.self.home
+    on_ok c.push_all.result (λ pushed empty. pushes_then c.args.self.home
     (learn c.args.self.home r.from r.to r.pos r.entries) (g.D.Desk.seen c.args.node.now) y y
     c.new-waiting.result.items c.deliver_each.new.waiting.items c.push_all.new.waiting.items _ _ _
     c.new-waiting.ensures.items empty

@@ -1,7 +1,6 @@
 use Rattle.std.proofs.Common.{rules, sym, subst}
 use Rattle.wire.specs.Ranges.{IsFrame}
-use Rattle.serving.specs.Connection.{answer_frame}
-use Rattle.serving.proofs.OneFrame.{answer_is_frame}
+use Rattle.serving.{specs.Connection.answer_frame, proofs.OneFrame.answer_is_frame}
 use Rattle.serving.proofs.session.Session.spell_what.Goals as goal
 
 pub encode-requires : goal.encode-requires

@@ -1,6 +1,5 @@
 use Rattle.std.proofs.Common.{ap, ◌∙◌, length}
-use Rattle.serving.proofs.Parts.{given_err}
-use Rattle.serving.proofs.Started.{take_not, take_part, takes}
+use Rattle.serving.proofs.{Parts.given_err, Started.take_not, Started.take_part, Started.takes}
 use Rattle.serving.proofs.session.Session.take.Goals as goal
 
 pub returns-in_err-answer-clause-err : goal.returns-in_err-answer-clause-err

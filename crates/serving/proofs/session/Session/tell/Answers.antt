@@ -1,9 +1,7 @@
 use Rattle.std.proofs.Common.{ap, ◌∙◌, length}
 use Rattle.serving.specs.declared.request.Request.TheVariants.{Lagging}
-use Rattle.serving.proofs.Told.{told_first, told_so}
-use Rattle.serving.proofs.Said.{said, said_not, said_part}
-use Rattle.serving.proofs.Parts.{on_err, given_err}
-use Rattle.serving.proofs.Reached.{on_ok}
+use Rattle.serving.proofs.{Told.told_first, Told.told_so, Reached.on_ok}
+use Rattle.serving.proofs.{Said.said, Said.said_not, Said.said_part, Parts.on_err, Parts.given_err}
 use Rattle.serving.proofs.session.Session.tell.Goals as goal
 
 pub returns-in_err-call_and_answer-clause-err : goal.returns-in_err-call_and_answer-clause-err
@@ -15,22 +13,16 @@ returns-in_err-call_and_answer-clause-err g c =
 
 pub returns-clause-ok : goal.returns-clause-ok
 returns-clause-ok g c =
-    on_ok c.start_if_grown.result
-    (λ d again.
+    on_ok c.start_if_grown.result (λ d again.
     said c.args.self.home (told_first c.args.self.home c.args.message)
-    (Lagging c.args.message) _ _ _ _ _ _ _
-    (told_so c.args.self.home c.args.message _)
+    (Lagging c.args.message) _ _ _ _ _ _ _ (told_so c.args.self.home c.args.message _)
     (c.len-before.ensures.len ∙ ap length c.log.ensures.entries)
-    c.in_ok-call_and_answer.ensures.ok d)
-    c.start_if_grown.ensures.ok c.start_if_grown.ensures.ok
+    c.in_ok-call_and_answer.ensures.ok d) c.start_if_grown.ensures.ok c.start_if_grown.ensures.ok
 
 pub returns-clause-err : goal.returns-clause-err
 returns-clause-err g c =
-    on_err c.start_if_grown.result
-    (λ d.
+    on_err c.start_if_grown.result (λ d.
     said_part c.args.self.home (told_first c.args.self.home c.args.message)
-    (Lagging c.args.message) _ _ _ _ _ _ _
-    (told_so c.args.self.home c.args.message _)
+    (Lagging c.args.message) _ _ _ _ _ _ _ (told_so c.args.self.home c.args.message _)
     (c.len-before.ensures.len ∙ ap length c.log.ensures.entries)
-    c.in_ok-call_and_answer.ensures.ok d)
-    c.start_if_grown.ensures.err
+    c.in_ok-call_and_answer.ensures.ok d) c.start_if_grown.ensures.err

@@ -1,9 +1,7 @@
 use Rattle.std.proofs.Common.{refl}
 use Rattle.learner.specs.declared.event.DeskEvent.TheVariants.{Tick}
-use Rattle.serving.specs.Serving.{take}
-use Rattle.serving.specs.declared.request.Request.TheVariants.{Ticked}
-use Rattle.serving.proofs.Answered.{ticks, fails}
-use Rattle.serving.proofs.Parts.{given_err}
+use Rattle.serving.specs.{Serving.take, declared.request.Request.TheVariants.Ticked}
+use Rattle.serving.proofs.{Answered.ticks, Answered.fails, Parts.given_err}
 use Rattle.serving.proofs.session.Session.tick.Goals as goal
 
 pub returns-clause-ok : goal.returns-clause-ok

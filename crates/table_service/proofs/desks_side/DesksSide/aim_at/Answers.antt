@@ -1,5 +1,4 @@
-use Rattle.table_service.specs.Steps.{Aims}
-use Rattle.table_service.proofs.Steps.{step}
+use Rattle.table_service.{specs.Steps.Aims, proofs.Steps.step}
 use Rattle.table_service.proofs.desks_side.DesksSide.aim_at.Goals as goal
 
 pub returns-clause-keeps : goal.returns-clause-keeps

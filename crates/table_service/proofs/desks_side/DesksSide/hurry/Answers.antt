@@ -1,5 +1,4 @@
-use Rattle.table_service.specs.Steps.{Awaits, Hurries}
-use Rattle.table_service.proofs.Steps.{step}
+use Rattle.table_service.{specs.Steps.Awaits, specs.Steps.Hurries, proofs.Steps.step}
 use Rattle.table_service.proofs.desks_side.DesksSide.hurry.Goals as goal
 
 pub returns-in-Some-clause-keeps : goal.returns-in-Some-clause-keeps

@@ -25,5 +25,4 @@ returns-clause-keeps g c =
     (c.in_ok-look.ensures.ok
     ∙ ap (λ (log : List Entry). record c.keep.new.self {
       outbox = looked c.keep.new.self.outbox log;
-    })
-    (sym (take-length c.keep.new.self.mirroring.entries))))
+    }) (sym (take-length c.keep.new.self.mirroring.entries))))

@@ -1,7 +1,5 @@
 use Rattle.std.proofs.Common.{ap}
-use Rattle.table_service.specs.Services.{ServiceOf}
-use Rattle.table_service.specs.Steps.{Tells}
-use Rattle.table_service.proofs.Steps.{step}
+use Rattle.table_service.{specs.Services.ServiceOf, specs.Steps.Tells, proofs.Steps.step}
 use Rattle.table_service.proofs.desks_side.DesksSide.tell.Goals as goal
 
 pub returns-clause-keeps : goal.returns-clause-keeps

@@ -1,7 +1,6 @@
 use Rattle.std.proofs.Common.{◌∙◌, ap, length, sym}
 use Rattle.outbox.specs.Items.{ItemsOf}
-use Rattle.table_service.specs.Services.{ServiceOf}
-use Rattle.table_service.proofs.Handed.{list_stays}
+use Rattle.table_service.{specs.Services.ServiceOf, proofs.Handed.list_stays}
 use Rattle.table_service.proofs.service.TableService.submit.Goals as goal
 
 pub invariant_of-self : goal.invariant_of-self

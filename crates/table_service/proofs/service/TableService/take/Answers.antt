@@ -1,7 +1,6 @@
 use Rattle.std.proofs.Common.{◌≡◌, ◌∙◌, Bool, ap, inl, map, rules, subst}
 use Rattle.std.specs.Prelude.{string_bytes}
-use Rattle.outbox.specs.Items.{ItemsOf, taken_back}
-use Rattle.outbox.specs.Outboxes.{OutboxOf, with_list}
+use Rattle.outbox.specs.{Items.ItemsOf, Items.taken_back, Outboxes.OutboxOf, Outboxes.with_list}
 use Rattle.table_service.specs.Services.{CannotTake, ServiceOf, TriesAll, service}
 use Rattle.table_service.proofs.Served.{is_low, same_back}
 use Rattle.table_service.proofs.service.TableService.take.Goals as goal
@@ -10,8 +9,7 @@ pub returns-in-Ok-false-clause-ok : goal.returns-in-Ok-false-clause-ok
 returns-in-Ok-false-clause-ok g c =
     let now = c.self.inside in
     let cannot : CannotTake now.outbox.list c.args.entries.now now.time =
-    subst
-    (λ (all : Bool). TriesAll all now.outbox.list c.args.entries.now now.time
+    subst (λ (all : Bool). TriesAll all now.outbox.list c.args.entries.now now.time
     c.take_all.new.outbox.list) c.in-Ok-false.field-0-test c.in-Ok-false.ensures.ok in
     let left : CannotTake c.args.self.now.outbox.list c.args.entries.now c.args.self.now.time =
     subst (λ (s : ServiceOf). CannotTake s.outbox.list c.args.entries.now s.time) c.self.view_is
@@ -24,8 +22,7 @@ returns-in-Ok-false-clause-ok g c =
     (c.take_all.ensures.same (is_low now.outbox c.self.invariant)
     ∙ same_back now.outbox c.self.invariant) in
     let stays =
-    ap
-    (λ (o : OutboxOf). service (string_bytes now.setup.title) (string_bytes now.setup.name)
+    ap (λ (o : OutboxOf). service (string_bytes now.setup.title) (string_bytes now.setup.name)
     (map string_bytes now.setup.hosts.items) (string_bytes now.setup.token)
     now.setup.proposals.items now.mirroring
     now.desks o now.ids.items now.time now.clock now.file) same

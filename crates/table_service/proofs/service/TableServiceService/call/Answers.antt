@@ -17,15 +17,13 @@ returns-in-Again-clause-ok g c =
     (effect.Again c.in-Again.entry c.in-Again.of) c.in_ok-reply.ensures is
     (again_does c.in_ok-reply.field-0 c.args.self.now c.write.new.response
     c.take_again.new.response c.take_again.new.self c.in_ok-write.ensures c.in-Again.entry
-    c.in-Again.of takes))
-    c.take_again.ensures.ok
+    c.in-Again.of takes)) c.take_again.ensures.ok
 
 pub returns-in_ok-take-in-Take-clause-ok : goal.returns-in_ok-take-in-Take-clause-ok
 returns-in_ok-take-in-Take-clause-ok g c =
     let is : c.in_ok-reply.field-0.effect ≡ effect.Take c.in-Take.entries = cc in
     let takes =
-    subst
-    (λ (entries : List Entry). TakesFor c.in_ok-take-in-Take.field-0 entries c.args.self.now
+    subst (λ (entries : List Entry). TakesFor c.in_ok-take-in-Take.field-0 entries c.args.self.now
     c.write.new.response c.take.new.self c.take.new.response) c.deref.ensures.value
     c.in_ok-take-in-Take.ensures.ok in
     answers_as c.in_ok-reply.field-0 c.args.self.now c.args.request.now c.take.new.response

@@ -1,6 +1,5 @@
 use Rattle.std.proofs.Common.{◌∙◌, ◌++◌, ap, sym}
-use Rattle.wcif_results.specs.Names.{kept, names_given}
-use Rattle.wcif_results.proofs.Naming.{named_after}
+use Rattle.wcif_results.{specs.Names.kept, specs.Names.names_given, proofs.Naming.named_after}
 use Rattle.wcif_results.proofs.named_meet.NamedMeet.apply.Goals as goal
 
 pub invariant_of-self-2 : goal.invariant_of-self-2

@@ -1,6 +1,5 @@
 use Rattle.std.proofs.Common.{◌∙◌}
-use Rattle.wcif_results.proofs.Texts.{text_of_value}
-use Rattle.wcif_results.proofs.results_json.Depths.{meet_depth}
+use Rattle.wcif_results.proofs.{Adding.text_of_value, results_json.Depths.meet_depth}
 use Rattle.wcif_results.proofs.results_json.meets.results_text.Goals as goal
 
 pub returns : goal.returns

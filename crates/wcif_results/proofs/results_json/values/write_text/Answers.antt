@@ -4,11 +4,9 @@ use Rattle.wcif_results.proofs.results_json.values.write_text.Goals as goal
 
 pub returns-in-Ok : goal.returns-in-Ok
 returns-in-Ok c =
-    on_ok c.string.result
-    (λ last. same
+    on_ok c.string.result (λ last. same
     (name_tokens c.args.bytes.now c.in-Ok.text.now c.in-Ok.ensures.cases.0 c.in-Ok.ensures.cases.1)
-    last)
-    (wrote_last c.string.result c.string.ensures)
+    last) (wrote_last c.string.result c.string.ensures)
 
 pub returns-in-Err : goal.returns-in-Err
 returns-in-Err c =

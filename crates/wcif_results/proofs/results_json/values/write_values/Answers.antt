@@ -1,12 +1,9 @@
 use Rattle.std.proofs.Common.{refl}
 use Rattle.wcif_results.specs.results_json.Values.{value_json}
-use Rattle.wcif_results.proofs.Adding.{one_more}
-use Rattle.wcif_results.proofs.Left.{items_left}
+use Rattle.wcif_results.proofs.Adding.{one_more, items_left}
 use Rattle.wcif_results.proofs.results_json.values.write_values.Goals as goal
 
 pub loop-value-preserved : goal.loop-value-preserved
 loop-value-preserved c =
-    one_more _ _
-    (items_left value_json c.args.values.now c.loop-value.value-index _ _ c.loop-value-test.true
-    refl)
-    c.loop-value.invariant c.in_ok-write_value.ensures
+    one_more _ _ (items_left value_json c.args.values.now c.loop-value.value-index _ _
+    c.loop-value-test.true refl) c.loop-value.invariant c.in_ok-write_value.ensures

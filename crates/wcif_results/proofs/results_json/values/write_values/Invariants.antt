@@ -1,8 +1,6 @@
 use Rattle.std.proofs.Common.{map, drop}
-use Rattle.json.specs.Tree.{items_tokens}
-use Rattle.json.specs.Value.{items_of}
-use Rattle.wcif_results.specs.results_json.Values.{value_json}
-use Rattle.wcif_results.proofs.Adding.{Leads}
+use Rattle.json.specs.{Tree.items_tokens, Value.items_of}
+use Rattle.wcif_results.{specs.results_json.Values.value_json, proofs.Adding.Leads}
 use Rattle.wcif_results.proofs.results_json.values.write_values.Given as goal
 
 abbrev pub invariant-loop-value : goal.invariant-loop-value

@@ -1,6 +1,5 @@
 use Rattle.std.proofs.Common.{◌≡◌, [], vec_len, sym, arith}
-use Rattle.std.proofs.lemmas.Bool.{eqb-true}
-use Rattle.std.proofs.lemmas.List.{nil_from_length}
+use Rattle.std.proofs.lemmas.{Bool.eqb-true, List.nil_from_length}
 use Rattle.wire.proofs.Feeding.{answers_again}
 use Rattle.wire.proofs.Keeping.{waits_after, kept_after, broken_after, refused_at_once}
 use Rattle.wire.proofs.reader.FrameReader.feed.Goals as goal

@@ -1,6 +1,5 @@
 use Rattle.std.proofs.Common.{ap, ◌∙◌, arith}
-use Rattle.wire.specs.Stream.{front}
-use Rattle.wire.proofs.Keeping.{nothing_waits}
+use Rattle.wire.{specs.Stream.front, proofs.Keeping.nothing_waits}
 use Rattle.wire.proofs.reader.FrameReader.new.Goals as goal
 
 pub invariant_of-result : goal.invariant_of-result

@@ -1,11 +1,8 @@
-use Rattle.std.proofs.Common.{◌≡◌, ◌<◌, ◌-◌, Some, ap, sym, ◌∙◌, subst}
+use Rattle.std.proofs.Common.{◌≡◌, ◌<◌, ◌-◌, ap, sym, ◌∙◌, subst}
 use Rattle.std.specs.Prelude.{true}
-use Rattle.std.proofs.lemmas.Option.{slice_get-get_or}
-use Rattle.learner.specs.Desks.{Desk}
-use Rattle.learner.specs.Steps.{is_desk}
+use Rattle.learner.specs.{Desks.Desk, Steps.is_desk}
 use Rattle.hall.specs.world.model.Halls.{HallValue, desk_from}
-use Rattle.replica.specs.roles.model.RunningDesks.{RunningDesk}
-use Rattle.hall.proofs.world.Places.{desk_test, place_less, known_at}
+use Rattle.hall.proofs.world.Places.{desk_test, here_at, known_at, place_less}
 use Rattle.hall.proofs.world.desks.Desks.log.Goals as goal
 
 pub index-requires : goal.index-requires
@@ -23,12 +20,8 @@ returns c =
     let ours : is_desk c.self.inside.count c.args.desk ≡ true =
     subst (λ n. is_desk n c.args.desk ≡ true) (sym count)
     (desk_test c.args.self.now.desks c.args.desk c.requires) in
-    let less =
-    place_less c.self.inside.count c.args.desk c.self.inside.desks.items c.self.invariant ours in
-    let here = slice_get-get_or c.self.inside.desks.items (c.args.desk - 1) c.index.result.now less
-    ∙ ap (λ (x : RunningDesk). Some x) (sym c.index.ensures) in
-    c.log.ensures.entries
-    ∙ ap (λ (x : Desk). x.log)
+    let here = here_at c.self.inside.count c.args.desk c.self.inside.desks.items
+    c.index.result.now c.self.invariant ours c.index.ensures in
+    c.log.ensures.entries ∙ ap (λ (x : Desk). x.log)
     (known_at c.self.inside.count c.args.desk c.self.inside.desks.items c.index.result.now ours
-    here)
-    ∙ ap (λ (h : HallValue). (desk_from 1 h.places c.args.desk).log) c.self.view_is
+    here) ∙ ap (λ (h : HallValue). (desk_from 1 h.places c.args.desk).log) c.self.view_is

@@ -1,7 +1,6 @@
 use Rattle.std.proofs.Common.{◌≡◌, ◌≤◌, ◌+◌, List, ap, sym, ◌∙◌, subst, arith}
 use Rattle.std.proofs.lemmas.Grind.{common_steps}
-use Rattle.replica.specs.roles.model.RunningDesks.{RunningDesk}
-use Rattle.replica.specs.roles.Opening.{opened}
+use Rattle.replica.specs.roles.{model.RunningDesks.RunningDesk, Opening.opened}
 use Rattle.hall.proofs.world.Happening.{FirstPlaces, first_more, first_numbered, first_world}
 use Rattle.hall.proofs.world.desks.Desks.new.Goals as goal
 

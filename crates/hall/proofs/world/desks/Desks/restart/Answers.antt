@@ -1,9 +1,8 @@
-use Rattle.std.proofs.Common.{◌<◌, ◌-◌, Some, ap, sym, ◌∙◌, subst}
-use Rattle.std.proofs.lemmas.Option.{slice_get-get_or}
+use Rattle.std.proofs.Common.{◌<◌, ◌-◌, ap, sym, ◌∙◌, subst}
 use Rattle.learner.specs.Worlds.{restart_at}
 use Rattle.hall.specs.world.model.Halls.{HallValue, world_of}
 use Rattle.replica.specs.roles.model.RunningDesks.{RunningDesk}
-use Rattle.hall.proofs.world.Places.{place_less, numbered_set}
+use Rattle.hall.proofs.world.Places.{here_at, numbered_set, place_less}
 use Rattle.hall.proofs.world.Happening.{restart_world}
 use Rattle.hall.proofs.world.desks.Desks.restart.Goals as goal
 
@@ -16,11 +15,8 @@ index_mut-requires c =
 pub invariant_of-self : goal.invariant_of-self
 invariant_of-self c =
     let ours = sym c.is_desk.ensures ∙ c.if-is_desk.true in
-    let less =
-    place_less c.self.inside.count c.args.desk c.self.inside.desks.items c.self.invariant ours in
-    let here =
-    slice_get-get_or c.self.inside.desks.items (c.args.desk - 1) c.index_mut.result.now less
-    ∙ ap (λ (x : RunningDesk). Some x) (sym c.index_mut.ensures.value) in
+    let here = here_at c.self.inside.count c.args.desk c.self.inside.desks.items
+    c.index_mut.result.now c.self.invariant ours c.index_mut.ensures.value in
     let new = c.in_ok-restart.ensures.ok in
     numbered_set c.self.inside.count c.args.desk c.self.inside.desks.items c.index_mut.result.now
     c.restart.new.self c.self.invariant here (ap (λ (x : RunningDesk). x.number) new)
@@ -29,11 +25,8 @@ invariant_of-self c =
 pub returns-in_ok-restart-clause-world : goal.returns-in_ok-restart-clause-world
 returns-in_ok-restart-clause-world c =
     let ours = sym c.is_desk.ensures ∙ c.if-is_desk.true in
-    let less =
-    place_less c.self.inside.count c.args.desk c.self.inside.desks.items c.self.invariant ours in
-    let here =
-    slice_get-get_or c.self.inside.desks.items (c.args.desk - 1) c.index_mut.result.now less
-    ∙ ap (λ (x : RunningDesk). Some x) (sym c.index_mut.ensures.value) in
+    let here = here_at c.self.inside.count c.args.desk c.self.inside.desks.items
+    c.index_mut.result.now c.self.invariant ours c.index_mut.ensures.value in
     let next =
     restart_world c.self.inside.count c.args.desk c.self.inside.desks.items c.index_mut.result.now
     c.restart.new.self c.self.inside.sent.items ours here

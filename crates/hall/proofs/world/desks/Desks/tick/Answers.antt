@@ -1,9 +1,7 @@
-use Rattle.std.proofs.Common.{◌<◌, ◌-◌, Some, ap, sym, ◌∙◌, subst}
-use Rattle.std.proofs.lemmas.Option.{slice_get-get_or}
+use Rattle.std.proofs.Common.{◌<◌, ◌-◌, ap, sym, ◌∙◌, subst}
 use Rattle.learner.specs.declared.event.DeskEvent.TheVariants.{Tick}
-use Rattle.replica.specs.roles.model.RunningDesks.{RunningDesk}
-use Rattle.hall.proofs.world.Places.{place_less}
-use Rattle.hall.proofs.world.Happening.{seen_follows}
+use Rattle.hall.{specs.world.model.Halls.HallValue, proofs.world.Happening.seen_follows}
+use Rattle.hall.proofs.world.Places.{here_at, numbered_set, place_less}
 use Rattle.hall.proofs.world.desks.Desks.tick.Goals as goal
 
 pub index_mut-requires : goal.index_mut-requires
@@ -15,55 +13,21 @@ index_mut-requires c =
 pub invariant_of-self : goal.invariant_of-self
 invariant_of-self c =
     let ours = sym c.is_desk.ensures ∙ c.if-not-is_desk.false in
-    let less =
-    place_less c.self.inside.count c.args.desk c.self.inside.desks.items c.self.invariant ours in
-    let here =
-    slice_get-get_or c.self.inside.desks.items (c.args.desk - 1) c.index_mut.result.now less
-    ∙ ap (λ (x : RunningDesk). Some x) (sym c.index_mut.ensures.value) in
-    let all = seen_follows c.self.inside.count c.args.desk c.self.inside.desks.items
-    c.index_mut.result.now c.tick.new.desk c.self.inside.sent.items c.tick.new.sent.items
-    c.tick.result Tick c.args.self.now c.self.view_is c.self.invariant ours here c.tick.ensures.same
-    c.tick.ensures.ok c.tick.ensures.err in
-    all.numbered
+    let here = here_at c.self.inside.count c.args.desk c.self.inside.desks.items
+    c.index_mut.result.now c.self.invariant ours c.index_mut.ensures.value in
+    numbered_set c.self.inside.count c.args.desk c.self.inside.desks.items c.index_mut.result.now
+    c.tick.new.desk c.self.invariant here c.tick.ensures.same.0 c.tick.ensures.same.1
 
-pub returns-clause-world : goal.returns-clause-world
-returns-clause-world c =
+pub returns : goal.returns
+returns c =
     let ours = sym c.is_desk.ensures ∙ c.if-not-is_desk.false in
-    let less =
-    place_less c.self.inside.count c.args.desk c.self.inside.desks.items c.self.invariant ours in
-    let here =
-    slice_get-get_or c.self.inside.desks.items (c.args.desk - 1) c.index_mut.result.now less
-    ∙ ap (λ (x : RunningDesk). Some x) (sym c.index_mut.ensures.value) in
     let all = seen_follows c.self.inside.count c.args.desk c.self.inside.desks.items
     c.index_mut.result.now c.tick.new.desk c.self.inside.sent.items c.tick.new.sent.items
-    c.tick.result Tick c.args.self.now c.self.view_is c.self.invariant ours here c.tick.ensures.same
-    c.tick.ensures.ok c.tick.ensures.err in
-    all.world
-
-pub returns-clause-refused : goal.returns-clause-refused
-returns-clause-refused c =
-    let ours = sym c.is_desk.ensures ∙ c.if-not-is_desk.false in
-    let less =
-    place_less c.self.inside.count c.args.desk c.self.inside.desks.items c.self.invariant ours in
-    let here =
-    slice_get-get_or c.self.inside.desks.items (c.args.desk - 1) c.index_mut.result.now less
-    ∙ ap (λ (x : RunningDesk). Some x) (sym c.index_mut.ensures.value) in
-    let all = seen_follows c.self.inside.count c.args.desk c.self.inside.desks.items
-    c.index_mut.result.now c.tick.new.desk c.self.inside.sent.items c.tick.new.sent.items
-    c.tick.result Tick c.args.self.now c.self.view_is c.self.invariant ours here c.tick.ensures.same
-    c.tick.ensures.ok c.tick.ensures.err in
-    all.refused
-
-pub returns-clause-err : goal.returns-clause-err
-returns-clause-err c =
-    let ours = sym c.is_desk.ensures ∙ c.if-not-is_desk.false in
-    let less =
-    place_less c.self.inside.count c.args.desk c.self.inside.desks.items c.self.invariant ours in
-    let here =
-    slice_get-get_or c.self.inside.desks.items (c.args.desk - 1) c.index_mut.result.now less
-    ∙ ap (λ (x : RunningDesk). Some x) (sym c.index_mut.ensures.value) in
-    let all = seen_follows c.self.inside.count c.args.desk c.self.inside.desks.items
-    c.index_mut.result.now c.tick.new.desk c.self.inside.sent.items c.tick.new.sent.items
-    c.tick.result Tick c.args.self.now c.self.view_is c.self.invariant ours here c.tick.ensures.same
-    c.tick.ensures.ok c.tick.ensures.err in
-    all.err
+    c.tick.result Tick c.args.self.now c.self.view_is c.self.invariant ours
+    c.index_mut.ensures.value c.tick.ensures.ok c.tick.ensures.err in
+    record {
+      world = all.world;
+      same = ap (λ (h : HallValue). h.desks) c.self.view_is;
+      refused = all.refused;
+      err = all.err;
+    }

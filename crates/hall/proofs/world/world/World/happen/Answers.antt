@@ -1,7 +1,6 @@
 use Rattle.std.proofs.Common.{◌≡◌, List, [], ◌∷◌, ◌++◌, sym, ◌∙◌, subst}
 use Rattle.learner.specs.declared.event.WorldEvent.{WorldEvent}
-use Rattle.hall.specs.world.model.Halls.{IsAfter}
-use Rattle.hall.proofs.world.Happening.{after_more}
+use Rattle.hall.{specs.world.model.Halls.IsAfter, proofs.world.Happening.after_more}
 use Rattle.hall.proofs.world.world.World.happen.Goals as goal
 
 pub invariant_of-self-2 : goal.invariant_of-self-2

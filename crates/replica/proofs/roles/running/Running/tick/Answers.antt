@@ -12,7 +12,6 @@ ready-requires c =
 pub returns-in_err-plan-clause-refused : goal.returns-in_err-plan-clause-refused
 returns-in_err-plan-clause-refused c =
     let same : c.from_residual.result ≡ Err c.in_err-plan.field-0.0 = search rules in
-    rw same
-    (tick_refuses (the_view c.self.inside) c.args.self.now c.len-len.result
+    rw same (tick_refuses (the_view c.self.inside) c.args.self.now c.len-len.result
     (Err c.in_err-plan.field-0.0) c.self.view_is c.len-len.ensures.len
     c.in_err-plan.ensures.refused)

@@ -1,0 +1,5 @@
+use Rattle.desk_sockets.proofs.Answering.{hands_none}
+use Rattle.desk_sockets.proofs.keyed_stream.KeyedStream.hear_on.Goals as goal
+
+pub returns-then-is_err-clause-hands : goal.returns-then-is_err-clause-hands
+returns-then-is_err-clause-hands g c = hands_none

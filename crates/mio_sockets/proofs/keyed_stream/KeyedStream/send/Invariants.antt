@@ -1,6 +1,0 @@
-use Rattle.std.specs.Prelude.{◌≡◌}
-use Rattle.sealed.specs.ends.ClientStreams.{own_key}
-use Rattle.mio_sockets.proofs.keyed_stream.KeyedStream.send.Given as goal
-
-abbrev pub invariant-loop-write : goal.invariant-loop-write
-invariant-loop-write l = own_key l.self.call ≡ own_key l.fn.self.call

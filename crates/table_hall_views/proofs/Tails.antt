@@ -1,8 +1,0 @@
--- What a call adds at the end of a text, where the call may fail.
-use Rattle.std.proofs.Common.{◌≡◌, ◌∙◌, List, ℕ, Result, Ok, Err, OnOk}
-
--- the same text, written otherwise
-pub same_after : {T E : Type 0} (r : Result T E) (x a b : List ℕ) → a ≡ b → OnOk r (x ≡ a)
-    → OnOk r (x ≡ b)
-same_after (Ok t) x a b same is = is ∙ same
-same_after (Err e) x a b same is = tt

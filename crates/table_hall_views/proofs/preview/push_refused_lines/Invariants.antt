@@ -1,9 +1,0 @@
-use Rattle.std.proofs.Common.{◌≡◌, ◌++◌, drop, flat_map}
-use Rattle.table_hall_views.specs.Preview.{refused_line}
-use Rattle.table_hall_views.proofs.preview.push_refused_lines.Given as goal
-
--- what was written, and what is written for those that are left, is the whole
-abbrev pub invariant-loop-one : goal.invariant-loop-one
-invariant-loop-one l =
-    l.out.items ++ flat_map refused_line (drop l.one-index l.tried)
-    ≡ l.initial.out.items ++ flat_map refused_line l.tried

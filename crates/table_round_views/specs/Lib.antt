@@ -1,0 +1,11 @@
+pub mod Overview
+pub mod Entrants
+pub mod Absent
+pub mod Comments
+pub mod Proposal
+pub mod Opening
+pub mod Changing
+pub mod Closing
+pub mod Reopening
+pub mod Scrambles
+pub mod Rounds
