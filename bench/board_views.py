@@ -9,12 +9,14 @@ bench/rules.py, which shares nothing with the crates. Standard library only.
 """
 
 import html
+import json
 import re
 import sys
 from pathlib import Path
 
 sys.dont_write_bytecode = True
 sys.path.append(str(Path(__file__).resolve().parent.parent / "scripts"))
+import beside
 import rules
 
 WORDS = {
@@ -241,8 +243,35 @@ def page(title, log, path):
     return "text/html", keeping, position, framed(kind, shows, title, "", shown)
 
 
+def psych(title, value, event):
+    """The page of who is registered for an event by a competition's file."""
+    title, words, kinds = escaped(title), WORDS[event], beside.kinds_of(event)
+    headings = ["rank", "country", "name", *kinds, "WCA ID"]
+    head = "".join(f'<th scope="col">{name}</th>' for name in headings)
+    lines = ""
+    for rank, country, name, *rest in beside.psych(value, event):
+        lines += f"<tr><td>{rank}</td><td>{escaped(country)}</td>"
+        lines += f'<th scope="row" dir="auto">{escaped(name)}</th>'
+        lines += "".join(f"<td>{escaped(text)}</td>" for text in rest) + "</tr>\n"
+    lines = lines or '<tr><td colspan="6">Nobody is registered.</td></tr>\n'
+    return f"""<!DOCTYPE html>
+<html lang="en"><head><meta charset="utf-8">
+<meta name="viewport" content="width=device-width, initial-scale=1">
+<title>{words} - {title}</title><link rel="stylesheet" href="/style.css"></head>
+<body class="one"><main>
+<h1 dir="auto">{title}</h1>
+<nav>
+<a href="/">all rounds</a>
+<a href="/people">find a name</a></nav>
+<section class="people"><table><caption><h2>{words}</h2>by the competition's file</caption>
+<thead><tr>{head}</tr></thead><tbody>
+{lines}</tbody></table></section>
+</main></body></html>
+"""
+
+
 def main():
-    title, log, is_board = "", [], True
+    title, log, is_board, file = "", [], True, None
     for line in sys.stdin.buffer.read().split(b"\n"):
         if line.startswith(b"pages of "):
             is_board = line == b"pages of the board"
@@ -252,11 +281,15 @@ def main():
             title = line[6:].decode()
         elif line.startswith(b"> "):
             log.append(line[2:])
+        elif line.startswith(b"file "):
+            file = None if line == b"file -" else json.loads(line[5:])
         elif line.startswith(b"get "):
             path = line[4:].decode()
             shown = page(title, log, path)
             out = f"== {path}\n"
-            if shown is None:
+            if file is not None and path.removeprefix("/psych/") in WORDS:
+                out += psych(title, file, path.removeprefix("/psych/"))
+            elif shown is None:
                 out += "none\n"
             else:
                 kind, keeping, position, body = shown

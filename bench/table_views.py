@@ -10,13 +10,16 @@ library only.
 """
 
 import html
+import json
 import re
 import sys
 from pathlib import Path
 
 sys.dont_write_bytecode = True
 sys.path.append(str(Path(__file__).resolve().parent.parent / "scripts"))
+import beside
 import rules
+import wcif_results
 from board_views import WORDS, section
 
 TOKEN = "0123456789abcdef"
@@ -37,6 +40,10 @@ NOTES = {
     "m": (1, "nobody has ever been that fast: is it right?", "fast-1"),
     "h": (2, "less than half of the best of this round, or of this competitor's in another: is it "
           "right?", "half-2"),
+    "b": (1, "20.00 is less than 0.8 of 25.01, this competitor's best by the competition's file: "
+          "is it right?", "best-1"),
+    "l": (2, "1:01.00 is less than half of 2:03.00, the best in this round by the competition's "
+          "file: is it right?", "field-2"),
     "s": (3, "does not solve scramble 3: DNF?", "unsolved-3"),
     "r": (3, "the times of attempts 1 and 2 again: is it right?", "repeats"),
     "q": (1, "write its moves, as R U' F2 Rw x: a number of moves alone is no solution", "-"),
@@ -45,6 +52,23 @@ NOTES = {
 FLOORS = {"222": 0.30, "333": 2.50, "444": 13.00, "555": 27.00, "666": 50.00, "777": 80.00,
           "333bf": 10.00, "333oh": 5.00, "clock": 1.30, "minx": 20.00, "pyram": 0.60,
           "skewb": 0.60, "sq1": 3.00, "444bf": 45.00, "555bf": 105.00}
+# what is to be done about what an export would refuse or remark, by words of its line
+SITE = "on the site that the file is from, and fetch the file again."
+TO_DO = {
+    "left out": "Nothing, if the round was not held. Else enter its results.",
+    "the format is": "Correct the one that is wrong: in the file a is ao5, m is mo3, and 1, 2 and "
+                     "3 are bo1, bo2 and bo3.",
+    "still runs": "Enter what is missing, and close the round.",
+    "no such round": f"Add the round {SITE}",
+    "nobody in the file": f"Add the person {SITE}",
+    "not accepted": f"Accept the registration {SITE}",
+    "in the file": 'If they are one person, <a href="/person/{}">give the number the name of the '
+                   "file</a>. Else the results are under a wrong number: they need the file's "
+                   "number, in a new list."}
+# whose card it is, where nobody's name is known
+NOBODY = ('<p class="group">Group <span></span></p>\n'
+          '<p class="who"><b></b> <bdi></bdi> <span></span></p>\n')
+NEXT = '<p class="next">next round: group <span></span> station <span></span></p>\n'
 CHANGES = (1, "another result counts: change it?", "changes-1")
 CARD = re.compile("CARD ([0-9a-z]+) ([1-4]) ([0-9]+) ([^ ]+) ([^#]*?)( # .*)?")
 NUMBERS = ["no", "one", "two", "three", "four", "five"]
@@ -81,7 +105,7 @@ class Pages:
         self.meet, self.length, self.hall, self.now = rules.Meet(), 0, "", 0
         self.followed, self.silent, self.undecided, self.lengths = 1, None, None, []
         self.away, self.key, self.declined = [], None, (None, "")
-        self.sent, self.tried = [], []
+        self.sent, self.tried, self.file, self.log = [], [], None, []
 
     def name(self, who):
         return escaped(self.meet.names.get(who, b"").decode())
@@ -350,8 +374,8 @@ class Pages:
             '<p class="results"><output id="average"></output><output id="best"></output></p>\n'
             '<button>Enter the card</button>\n</form>\n<p class="keys"><kbd>d</kbd> or '
             '<kbd>/</kbd> DNF, <kbd>s</kbd> or <kbd>*</kbd> DNS (in fewest moves <kbd>/</kbd> and '
-            '<kbd>*</kbd>), <kbd>+</kbd> after a time 2 seconds more, <kbd>Esc</kbd> puts the card '
-            'away</p>\n<p class="options" hidden><label>'
+            '<kbd>*</kbd>), <kbd>+</kbd> after a time 2 seconds more</p>\n'
+            '<p class="options" hidden><label>'
             '<input id="sound" type="checkbox"> sound</label> <label>'
             '<input id="blind" type="checkbox"> second reading: what differs is listed</label>'
             '</p>\n'
@@ -399,6 +423,9 @@ class Pages:
                     + "".join(f'<td><a href="{path}{where}">{words}</a></td>'
                               for path, words in links) + "</tr>\n")
         out += '</tbody></table>\n<p><a href="/rounds">Open a round</a></p></section>\n'
+        if self.file is not None:
+            out += ('<section id="sending"><p><a href="/before">Before you send the results</a></p>'
+                    "</section>\n")
         return self.page("hall", "Score table", out + self.recent())
 
     @staticmethod
@@ -788,6 +815,39 @@ class Pages:
         inside = self.all_rounds() if round_ is None else self.forms(*round_)
         return self.page("hall", "Open and close rounds", inside + self.recent())
 
+    # ---- before results are sent in
+
+    def open_line(self, line):
+        """The row of what an export would refuse or remark, by its line."""
+        where, _, told = line.partition(": ")
+        what, which = where.split("-r")
+        called = (self.words(what, int(which)) if (what, int(which)) in self.meet.rounds
+                  else f"{what}-{which}")
+        kind = next(kind for kind in TO_DO if kind in told)
+        who = re.match("number ([0-9]+)", told)
+        told = re.sub('"(.*?)"', lambda name: f'"<bdi>{name[1]}</bdi>"', html.escape(told, False))
+        return (f'<tr><th scope="row"><a href="/rounds?round={what}-{which}">{called}</a></th>'
+                f"<td>{told}</td><td>{TO_DO[kind].format(who and who[1])}</td></tr>\n")
+
+    def before(self):
+        out = ("<section><h1>Before you send</h1>\n<p>What an export of the list so far over the "
+               "competition's file would refuse or remark.</p>\n")
+        if self.file is None:
+            out += ("<p>This score table was started without the competition's file: start it with "
+                    "<code>--wcif FILE</code>.</p>\n")
+        elif not self.meet.rounds:
+            out += "<p>The list opens no round: there is nothing to send.</p>\n"
+        else:
+            _, refused, remarked, _ = wcif_results.exported(self.log, json.dumps(self.file))
+            rows = "".join(map(self.open_line, beside.open_lines(refused, remarked)))
+            out += ("<table><caption>First what is refused, then what is remarked, by rounds"
+                    "</caption>\n<thead><tr><th>round</th><th>what is open</th><th>what to do</th>"
+                    f"</tr></thead><tbody>\n{rows}</tbody></table>\n" if rows else
+                    "<p><strong>nothing is open</strong></p>\n<p>Each round of the list is closed, "
+                    "and the file has a place for each of its results: <code>desk export</code> "
+                    "prints the file with them.</p>\n")
+        return self.page("hall", "Before you send", out + "</section>\n" + self.recent())
+
     # ---- paper
 
     def printed(self, kind, inside):
@@ -803,22 +863,42 @@ class Pages:
 
     def scorecards(self, what, which):
         table, out = self.meet.rounds[what, which], ""
-        for who in table.standings():
+        names = {who: self.meet.names[who].decode() for who in table.entrants}
+        whose = [f'<p class="group">{seat}</p>\n<p class="who"><b>{who}</b> <bdi>{escaped(name)}'
+                 f"</bdi> <span>{escaped(wca_id)}</span></p>\n"
+                 for who, name, wca_id, seat in beside.cards(self.file, what, which, names)]
+        below = beside.limit_words(self.file, what, which)
+        below = f'<p class="together">{escaped(below)}</p>\n' if below else ""
+        if table.advance != ("final",):
+            below += NEXT
+        for person in whose + [NOBODY] * beside.blanks(len(whose)):
             out += (f'<section class="scorecard"><p class="hall">{escaped(self.hall)}</p>\n'
-                    f'<p class="round">{self.words(what, which)}</p>\n<p class="who"><b>{who}</b> '
-                    f"<bdi>{self.name(who)}</bdi></p>\n<table><thead><tr><th></th><th>result</th>"
-                    "<th>judge</th><th>competitor</th></tr></thead><tbody>\n")
-            for count in range(rules.ATTEMPTS[table.form]):
-                out += f'<tr><th scope="row">{count + 1}</th><td></td><td></td><td></td></tr>\n'
-            out += (f'</tbody></table>\n<p class="rules">{self.settings(what, table)}</p>'
-                    "</section>\n")
+                    f'<p class="round">{self.words(what, which)}</p>\n{person}<table><thead><tr>'
+                    "<th></th><th>scrambler</th><th>result</th><th>judge</th><th>competitor</th>"
+                    "</tr></thead><tbody>\n")
+            for count in range(1, rules.ATTEMPTS[table.form] + 1):
+                last = table.cutoff != "-" and table.cutoff[0] == count
+                out += self.card_row("cutoff" if last else "attempt", count)
+            out += (self.card_row("extra", "extra") * 2 + '</tbody></table>\n<p class="rules">'
+                    f"{self.settings(what, table)}</p>\n{below}</section>\n")
+        for group, lists in beside.duties(self.file, what, which):
+            out += f'<section class="duties"><h2>{self.words(what, which)}, group {group}</h2>\n'
+            for heading, names in zip(beside.DUTIES, lists):
+                names = "".join(f"<li>{escaped(name)}</li>\n" for name in names)
+                out += f"<div><h3>{heading}</h3>\n<ul>{names}</ul></div>\n"
+            out += "</section>\n"
         return self.printed("scorecards", out)
+
+    @staticmethod
+    def card_row(kind, heading):
+        return f'<tr class="{kind}"><th scope="row">{heading}</th>' + 4 * "<td></td>" + "</tr>\n"
 
     # ---- paths
 
     def at(self, path):
         fixed = {"/": self.overview, "/people": self.people, "/refused": self.refused,
-                 "/faults": self.faults, "/import": self.importing, "/preview": self.preview}
+                 "/faults": self.faults, "/import": self.importing, "/preview": self.preview,
+                 "/before": self.before}
         if path in fixed:
             return fixed[path]()
         kind, _, rest = path.removeprefix("/").partition("/")
@@ -849,13 +929,18 @@ class Pages:
 
     def line(self, line, out):
         word, _, text = line.partition(" ")
-        if word == ">":
+        if word == "new":
+            self.__init__()
+        elif word == ">":
             self.meet.apply(text.encode())
+            self.log.append(text)
             self.length += 1
         elif word == "hall":
             self.hall = text
         elif word == "now":
             self.now = int(text)
+        elif word == "file":
+            self.file = None if text == "-" else json.loads(text)
         elif word == "desks":
             read = [None if it == "-" else int(it) for it in text.split(" ")]
             self.followed, self.silent, self.undecided, *self.lengths = read

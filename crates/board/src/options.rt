@@ -4,6 +4,7 @@ use board_service::{BoardEnd, PROGRAM, serve};
 use clap::builder::ValueParser;
 use clap::{Arg, ArgAction, ArgMatches, Command, Error};
 use command_line::borrowed;
+use competition_file::file_given;
 use fault_hints::{explain_listening, is_wanted};
 use hall_file::hall_options::{
     FoundHall, Mistake, address_at, hall_of, number_at, option, tell, tell_mistake,
@@ -12,6 +13,7 @@ use hall_file::hall_options::{
 use hall_survey::Hall;
 use http_server::Config;
 use pages::{BrowserLimits, browsers_at};
+use renewed_file::RenewedFile;
 use std::alloc::{AllocError, Global};
 use std::io;
 use std::io::Write;
@@ -41,15 +43,20 @@ is at http://ADDR/333-1 and its table at http://ADDR/333-1.csv; both as they wer
 are at http://ADDR/at/17/333-1. All competitors are at http://ADDR/people, the rounds of competitor
 17 at http://ADDR/person/17, the first three of each final at http://ADDR/podiums, the log at
 http://ADDR/log.txt, and how the desks are at http://ADDR/status.json. ADDR is that of --listen.
+Where --wcif names the competition's file, those who are registered for 333 are at
+http://ADDR/psych/333 in order of the bests that it has. No other page depends on that file. A
+newer file of the same competition at its path takes its place within seconds; where one is no
+competition's, or another's, the file before is kept, and standard error gets a line.
 It prints `board at ADDR` once it listens, and runs until it is stopped.
 
 The desks are those of --hall and --to, or without these all desks of the hall that FILE describes.
 Where they have a key, it is in the file of --key, or in the one that FILE names. Standard error
 gets a line where a desk has another key, has no key, or has a key and the board has none.
 
-Exit status: 2 invalid arguments, or help or the version; 3 FILE describes no hall, or the key's
-file gives no key; 4 an invalid address, cannot listen, cannot continue, or two desks have different
-commands; 5 no memory. Standard error gets a line that says why.";
+Exit status: 2 invalid arguments, or help or the version; 3 FILE describes no hall, the key's file
+gives no key, or the file of --wcif cannot be read or is no competition's; 4 an invalid address,
+cannot listen, cannot continue, or two desks have different commands; 5 no memory. Standard error
+gets a line that says why.";
 
 /// The most browsers whose connections are open at once. With those that are ending, and with the
 /// desk's, a program has no more than 1,024 files open, which is the usual limit.
@@ -78,6 +85,7 @@ fn command<'a>(alloc: Global) -> Result<Command<'a>, AllocError> {
     let listen = "Where browsers find the board, as 127.0.0.1:8080";
     let title = "The title of the pages; without this option Results";
     let patience = "How long to wait for a browser, 1 to 3600; without this option 10";
+    let wcif = "The competition's file of the WCA's site, for pages beside the list";
     let seconds = ValueParser::unsigned(1, 3600);
     let explain = Arg::new(alloc, "explain")
         .long("explain")
@@ -86,6 +94,7 @@ fn command<'a>(alloc: Global) -> Result<Command<'a>, AllocError> {
     with_desks(alloc, plain)?
         .arg(option(alloc, "listen", "ADDR", listen, ValueParser::string()).required(true))?
         .arg(option(alloc, "title", "TEXT", title, ValueParser::string()))?
+        .arg(option(alloc, "wcif", "FILE", wcif, ValueParser::string()))?
         .arg(option(alloc, "patience", "SECONDS", patience, seconds))?
         .arg(explain)
 }
@@ -124,6 +133,14 @@ fn tell_listening<F: Write>(
     status
 }
 
+/// The competition's file at the path of `--wcif`, which a newer one may replace.
+fn renewed_of<'a>(rt: &HostRuntime, found: &ArgMatches<'a>) -> Option<RenewedFile<'a>> {
+    match found.get_str("wcif") {
+        Some(path) => Some(RenewedFile::new(rt, path)),
+        None => None,
+    }
+}
+
 /// Listens and serves until the system fails, and returns the status.
 fn run_order<W: Write, F: Write>(
     rt: &HostRuntime,
@@ -138,6 +155,11 @@ fn run_order<W: Write, F: Write>(
         listen,
         patience,
     } = order;
+    let mut renewed = renewed_of(rt, found);
+    let competition = match file_given(rt, found.get_str("wcif"), PROGRAM, faults) {
+        Ok(competition) => competition,
+        Err(status) => return status,
+    };
     let mut config = Config::default();
     config.limits.max_head_len = LONGEST_REQUEST;
     config.max_body_len = LONGEST_REQUEST;
@@ -155,7 +177,17 @@ fn run_order<W: Write, F: Write>(
         addresses: &hall.desks,
         key: hall.key,
     };
-    match serve(rt, rt.alloc(), asked, title, browsers, writer, faults) {
+    match serve(
+        rt,
+        rt.alloc(),
+        asked,
+        title,
+        competition,
+        &mut renewed,
+        browsers,
+        writer,
+        faults,
+    ) {
         Ok(BoardEnd::Failed) => tell(faults, PROGRAM, "cannot continue", 4),
         Ok(BoardEnd::Broken) => tell(faults, PROGRAM, BROKEN, 4),
         Err(error) => tell_system(faults, PROGRAM, &error, "cannot continue"),

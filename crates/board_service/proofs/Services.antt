@@ -19,8 +19,8 @@ shows s request response path page is stands replies = record {
   replies = replies;
 }
 
-module _ (title : List ℕ) (m : MirroringOf) (d : HallDesksOf) (t : ℕ) (s : ServiceOf)
-    (is : service title m d t ≡ s) (path : List ℕ) (page : Option Page) where
+module _ (title : List ℕ) (m : MirroringOf) (d : HallDesksOf) (f : Option (List ℕ)) (t : ℕ)
+    (s : ServiceOf) (is : service title m d f t ≡ s) (path : List ℕ) (page : Option Page) where
   pub stands_as_seen : IsPageAt title m.entries path page
       → IsPageAt s.title s.mirroring.entries path page
   stands_as_seen stands =
@@ -32,8 +32,9 @@ module _ (title : List ℕ) (m : MirroringOf) (d : HallDesksOf) (t : ℕ) (s : S
       subst (λ (z : ServiceOf). IsPageAt z.title z.mirroring.entries path page) (sym is) stands
 
 -- a page that is kept
-pub kept_stands : (title : List ℕ) (m : MirroringOf) (d : HallDesksOf) (t : ℕ) (s : ServiceOf)
-    (shelf : Shelf) → service title m d t ≡ s → AreAllAt title m.entries shelf → (path : List ℕ)
-    (p : Page) → page_on shelf path ≡ Some p → IsPageAt s.title s.mirroring.entries path (Some p)
-kept_stands title m d t s shelf is all path p at =
-    stands_as_seen title m d t s is path (Some p) (all path p at)
+pub kept_stands : (title : List ℕ) (m : MirroringOf) (d : HallDesksOf) (f : Option (List ℕ)) (t : ℕ)
+    (s : ServiceOf) (shelf : Shelf) → service title m d f t ≡ s → AreAllAt title m.entries shelf
+    → (path : List ℕ) (p : Page) → page_on shelf path ≡ Some p
+    → IsPageAt s.title s.mirroring.entries path (Some p)
+kept_stands title m d f t s shelf is all path p at =
+    stands_as_seen title m d f t s is path (Some p) (all path p at)

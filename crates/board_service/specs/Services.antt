@@ -1,5 +1,6 @@
 -- What the board answers (the project's own).
-use Rattle.std.specs.Prelude.{◌≡◌, ℕ, ◌&&◌, Bool, true, false, List, [], ◌∷◌, Option, codes, min}
+use Rattle.std.specs.Prelude.{◌≡◌, ℕ, ◌&&◌, Bool, true, false, List, [], ◌∷◌, codes, min}
+use Rattle.std.specs.Prelude.{Option, None, Some}
 use Rattle.std.specs.Str.{bytes_eq}
 use Rattle.http.specs.{declared.request.Request.Request, Request.head_of}
 use Rattle.http_uri.specs.Uri.{uri_path}
@@ -10,18 +11,28 @@ use Rattle.markup.specs.replies.Replies.{Replies, is_read, no_store}
 use Rattle.board_views.specs.Views.{IsPageAt}
 use Rattle.kept_mirror.specs.Mirrorings.{MirroringOf, wait_of}
 use Rattle.hall_survey.specs.Halls.{HallDesksOf, IsStatus, ages_text, desks_wait}
+use Rattle.competition_file.specs.Files.{data_of}
+use Rattle.file_views.specs.Paths.{view_at}
+use Rattle.file_views.specs.Psych.{IsFilePage}
+use Rattle.file_views.specs.declared.paths.FileView.{FileView}
 
--- the title of the competition, the mirror with what keeps it up, the desks that are asked, and
--- what the clock said when the mirror was kept up last
+-- the title of the competition, the mirror with what keeps it up, the desks that are asked, the
+-- competition's file, where there is one, and what the clock said when the mirror was kept up last
 pub record ServiceOf : Type 0 where
   pub title : List ℕ
   pub mirroring : MirroringOf
   pub desks : HallDesksOf
+  pub competition : Option (List ℕ)
   pub time : ℕ
 
-abbrev pub service : List ℕ → MirroringOf → HallDesksOf → ℕ → ServiceOf
-service title mirroring desks time =
-    record { title = title; mirroring = mirroring; desks = desks; time = time }
+abbrev pub service : List ℕ → MirroringOf → HallDesksOf → Option (List ℕ) → ℕ → ServiceOf
+service title mirroring desks competition time = record {
+  title = title;
+  mirroring = mirroring;
+  desks = desks;
+  competition = competition;
+  time = time;
+}
 
 -- in how many milliseconds something is to be done for the mirror or for the survey of a desk, if
 -- nothing comes: as soon as it is for one of them
@@ -67,11 +78,35 @@ pub record ShowsPage (s : ServiceOf) (request : Request (List ℕ)) (response : 
   pub stands : IsPageAt s.title s.mirroring.entries (path_of request) page
   pub replies : Replies request page response
 
+-- ---- pages of the competition's file
+
+abbrev pub if_read : Bool → Option FileView → Option FileView
+if_read true view = view
+if_read false view = None
+
+-- GET and HEAD of a path of the file's
+abbrev pub asks_file : Request (List ℕ) → Option FileView
+asks_file request = if_read (is_read (head_of request).method) (view_at (path_of request))
+
+-- the page of the file, which nobody is to keep; the reply for none, where there is no file
+abbrev pub ShowsFile : List ℕ → Option (List ℕ) → FileView → Request (List ℕ) → Response → Type 0
+ShowsFile title None view request response = Replies request None response
+ShowsFile title (Some file) view request response =
+    (text : List ℕ) × IsFilePage title (data_of file) view text
+    × IsResponse 200 (fields_of (codes "text/html; charset=utf-8")) text response
+
+-- ---- answers
+
+-- a page of the file, where that is asked; else that of the list
+abbrev pub ShowsView : Option FileView → ServiceOf → Request (List ℕ) → Response → Type 0
+ShowsView None s request response = ShowsPage s request response
+ShowsView (Some view) s request response = ShowsFile s.title s.competition view request response
+
 -- how the desks are, or when they were heard, where that is asked; else the reply for a page
 abbrev pub ShowsBy : (status ages : Bool) → ServiceOf → Request (List ℕ) → Response → Type 0
 ShowsBy true ages s request response = ShowsStatus s response
 ShowsBy false true s request response = ShowsAges s response
-ShowsBy false false s request response = ShowsPage s request response
+ShowsBy false false s request response = ShowsView (asks_file request) s request response
 
 -- so it is answered, and nothing changes
 abbrev pub Answers : ServiceOf → Request (List ℕ) → Response → ServiceOf → Type 0

@@ -1,17 +1,22 @@
 //! The service of the board.
 
-ghost use Rattle.std.specs.Prelude.{◌≡◌, IfOk, OnOk, string_bytes};
+ghost use Rattle.std.specs.Prelude.{◌≡◌, IfErr, IfOk, OnErr, OnOk, string_bytes};
 ghost use Rattle.board_views.specs.Views.{IsPageAt};
 ghost use Rattle.http_server.specs.Response.{IsBlank};
-ghost use Rattle.board_service.specs.Services.{ShowsAges, ShowsPage, ShowsStatus, asks_ages};
-ghost use Rattle.board_service.specs.Services.{asks_status, service, service_wait};
+ghost use Rattle.board_service.specs.Services.{ShowsAges, ShowsFile, ShowsPage, ShowsStatus};
+ghost use Rattle.board_service.specs.Services.{asks_ages, asks_file, asks_status, service};
+ghost use Rattle.board_service.specs.Services.{service_wait};
+ghost use Rattle.board_service.specs.Laws.{with_file};
 ghost use Rattle.hall_survey.specs.Halls.{Differs, IsKept};
+ghost use Rattle.renewed_file.specs.Renewing.{RenewFailsFor, Renews};
 
 use crate::shelf::Shelf;
 use crate::status::send_status;
 use board_views::page_at;
 use bytes::Bytes;
+use competition_file::{CompetitionFile, RenewFault};
 use desk_sockets::{DeskStream, DialogueChange};
+use file_views::{FileView, file_page};
 use hall_survey::HallDesks;
 use http::{HeaderValue, Request};
 use http_server::{Response, Service};
@@ -37,6 +42,17 @@ fn asks_ages(request: &Request<Bytes>) -> bool
     request.uri().path() == "/heard.txt" && is_read(request.method())
 }
 
+/// What of the competition's file a request asks for.
+fn asks_file(request: &Request<Bytes>) -> Option<FileView>
+    ensures { result ≡ asks_file request.now }
+{
+    if is_read(request.method()) {
+        FileView::from_path(request.uri().path().as_bytes())
+    } else {
+        None
+    }
+}
+
 /// Answers browsers with the pages of a mirror of a hall's log, and programs that ask how the desks
 /// of the hall are.
 ///
@@ -44,13 +60,16 @@ fn asks_ages(request: &Request<Bytes>) -> bool
 /// are kept until then.
 ///
 /// A contract sees the title of the competition, the mirror with what keeps it up, the desks that
-/// are asked how they are, and the time. Which pages are kept makes no difference to an answer.
+/// are asked how they are, the competition's file, and the time. Which pages are kept makes no
+/// difference to an answer.
 #[derive(Drop)]
 pub struct BoardService {
     alloc: Global,
     title: String,
     mirroring: Mirroring,
     desks: HallDesks,
+    /// The competition's file, where there is one.
+    competition: Option<CompetitionFile>,
     /// What the clock said when the mirror was kept up last, in milliseconds.
     time: u64,
     /// Pages of the mirror as it is.
@@ -64,21 +83,23 @@ impl Model for BoardService {
 
     ghost Value = { ServiceOf };
 
-    ghost view = { λ s. service (string_bytes s.title) s.mirroring s.desks s.time };
+    ghost view = { λ s. service (string_bytes s.title) s.mirroring s.desks s.competition s.time };
 
     ghost invariant = { λ s. AreAllAt (string_bytes s.title) s.mirroring.entries s.shelf };
 }
 
 impl BoardService {
-    /// A service over a mirror, for the competition of this title, and over the desks of a hall, at
-    /// time 0.
+    /// A service over a mirror, for the competition of this title and with its file, and over the
+    /// desks of a hall, at time 0.
     pub fn new(
         alloc: Global,
         title: String,
         mirroring: Mirroring,
         desks: HallDesks,
+        competition: Option<CompetitionFile>,
     ) -> Result<BoardService, AllocError>
-        ensures { IfOk result (λ s. s ≡ service (string_bytes title) mirroring desks 0) }
+        ensures { IfOk result
+            (λ s. s ≡ service (string_bytes title) mirroring desks competition 0) }
     {
         let shelf = Shelf::new(alloc)?;
         Ok(BoardService {
@@ -86,6 +107,7 @@ impl BoardService {
             title,
             mirroring,
             desks,
+            competition,
             time: 0,
             shelf,
         })
@@ -108,6 +130,7 @@ impl BoardService {
     ) -> DialogueChange
         ensures title { self.new.title ≡ self.old.title }
         ensures desks { self.new.desks ≡ self.old.desks }
+        ensures competition { self.new.competition ≡ self.old.competition }
         ensures time { self.new.time ≡ now }
         ensures same { result ≡ DialogueChange.Same
             → self.new.mirroring.entries ≡ self.old.mirroring.entries }
@@ -128,10 +151,25 @@ impl BoardService {
     )
         ensures title { self.new.title ≡ self.old.title }
         ensures mirroring { self.new.mirroring ≡ self.old.mirroring }
+        ensures competition { self.new.competition ≡ self.old.competition }
         ensures time { self.new.time ≡ self.old.time }
         ensures desks { IsKept place self.old.desks self.new.desks }
     {
         self.desks.keep(place, stream, now);
+    }
+
+    /// Takes a newer file of the same competition in place of the one before; nothing where there
+    /// is none. At a fault the one before stays.
+    pub fn renew(&mut self, bytes: Vec<u8>) -> Result<(), RenewFault>
+        ensures others { OnOk result (self.new ≡ with_file self.new.competition self.old) }
+        ensures ok { OnOk result (Renews self.old.competition bytes.items self.new.competition) }
+        ensures why { IfErr result (RenewFailsFor self.old.competition bytes.items) }
+        ensures err { OnErr result (self.new ≡ self.old) }
+    {
+        match &mut self.competition {
+            Some(file) => file.renew(self.alloc, bytes),
+            None => Ok(()),
+        }
     }
 
     /// In how many milliseconds something is to be done for the mirror or for a survey, if nothing
@@ -191,7 +229,30 @@ impl BoardService {
         send_status(HeaderValue::from_static("text/plain"), text, response)
     }
 
-    /// Answers a request for a page.
+    /// Answers a request for a page of the competition's file.
+    fn show_file(
+        &self,
+        view: FileView,
+        request: &Request<Bytes>,
+        response: &mut Response,
+    ) -> Result<(), AllocError>
+        requires { IsBlank response.old }
+        ensures { OnOk result
+            (ShowsFile self.now.title self.now.competition view request.now response.new) }
+    {
+        let Some(file) = &self.competition else {
+            reply(request, None, response)?;
+            return Ok(());
+        };
+        let text = file_page(self.alloc, file, self.title.as_bytes(), view)?;
+        send_status(
+            HeaderValue::from_static("text/html; charset=utf-8"),
+            text,
+            response,
+        )
+    }
+
+    /// Answers a request for a page of the list.
     fn show(&mut self, request: &Request<Bytes>, response: &mut Response) -> Result<(), AllocError>
         requires { IsBlank response.old }
         ensures same { self.new ≡ self.old }
@@ -213,7 +274,8 @@ impl Service for BoardService {
     ghost use Rattle.board_service.specs.Services.{Answers};
 
     // The response is that of `markup::replies::reply` for the page that is at the request's path
-    // as the mirror is, or says how the desks are or when they said so, and nothing changes.
+    // as the mirror is, or a page of the competition's file, or says how the desks are or when they
+    // said so, and nothing changes.
     ghost answers = { Answers };
 
     fn call(
@@ -225,6 +287,8 @@ impl Service for BoardService {
             self.tell_status(response)
         } else if asks_ages(request) {
             self.tell_ages(response)
+        } else if let Some(view) = asks_file(request) {
+            self.show_file(view, request, response)
         } else {
             self.show(request, response)
         }

@@ -1,13 +1,16 @@
 //! The board: browsers are answered, and the mirror is kept up, as sockets become ready.
 
 use crate::service::BoardService;
+use competition_file::CompetitionFile;
 use desk_sockets::{DeskStream, DialogueChange};
 use hall_survey::{
     AskedDesks, AskedStream, Hall, asked_desks, count_desks, lent_stream, tell_difference,
 };
 use kept_mirror::Mirroring;
 use pages::{TcpBrowsers, say_where};
+use renewed_file::RenewedFile;
 use std::alloc::Global;
+use std::fs::Files;
 use std::io;
 use std::io::Write;
 use std::net::Net;
@@ -40,13 +43,36 @@ fn tell_if_differs<F: Write>(service: &BoardService, faults: &mut F) -> bool {
     }
 }
 
+/// Takes a newer competition's file in place of the one before, where its path has one.
+fn renew<R: Files, F: Write>(
+    runtime: &R,
+    alloc: Global,
+    service: &mut BoardService,
+    renewed: &mut Option<RenewedFile<'_>>,
+    now: u64,
+    faults: &mut F,
+) {
+    let Some(file) = renewed else {
+        return;
+    };
+    let Some(bytes) = file.newer(runtime, alloc, now, PROGRAM, faults) else {
+        return;
+    };
+    if let Err(fault) = service.renew(bytes) {
+        file.tell_fault(PROGRAM, &fault, faults);
+    }
+}
+
 /// Serves until it can't continue, over the connection to the desk that is asked for its log, and
 /// those to the desks that are asked how they are. Says what is wrong with their keys.
-fn serve_on<R: Net + RandomSource + Clock + Drop, F: Write>(
+fn serve_on<R: Net + RandomSource + Clock + Files + Drop, F: Write>(
+    runtime: &R,
+    alloc: Global,
     browsers: &mut TcpBrowsers<'_, R>,
     service: &mut BoardService,
     followed: &mut DeskStream<'_, R>,
     asked: &mut [AskedStream<'_, R>],
+    renewed: &mut Option<RenewedFile<'_>>,
     faults: &mut F,
 ) -> BoardEnd {
     let mut now = 0;
@@ -57,6 +83,7 @@ fn serve_on<R: Net + RandomSource + Clock + Drop, F: Write>(
             return BoardEnd::Failed;
         };
         now = after;
+        renew(runtime, alloc, service, renewed, now, faults);
         for place in 0..asked.len() {
             service.keep_desk(place, asked[place].stream, now);
             asked[place].tell(faults, PROGRAM);
@@ -69,13 +96,17 @@ fn serve_on<R: Net + RandomSource + Clock + Drop, F: Write>(
     BoardEnd::Failed
 }
 
-/// Says where it listens, and serves the pages of a hall under this title to these browsers until
-/// it can't continue. What is wrong with the key of a desk is said on a line of `faults`.
-pub fn serve<'a, R: Net + RandomSource + Clock + Drop, W: Write, F: Write>(
+/// Says where it listens, and serves the pages of a hall under this title, and those of the
+/// competition's file, to these browsers until it can't continue. What is wrong with the key of a
+/// desk is said on a line of `faults`, and why a newer file does not take the place of the one
+/// before.
+pub fn serve<'a, R: Net + RandomSource + Clock + Files + Drop, W: Write, F: Write>(
     runtime: &'a R,
     alloc: Global,
     hall: Hall<'_>,
     title: String,
+    competition: Option<CompetitionFile>,
+    renewed: &mut Option<RenewedFile<'_>>,
     browsers: &mut TcpBrowsers<'a, R>,
     writer: &mut W,
     faults: &mut F,
@@ -84,13 +115,16 @@ pub fn serve<'a, R: Net + RandomSource + Clock + Drop, W: Write, F: Write>(
     let AskedDesks { desks, mut streams } = asked_desks(runtime, alloc, browsers, hall)?;
     let followed = lent_stream(runtime, alloc, browsers, 0, hall)?;
     let mirroring = Mirroring::new(alloc, hall.number, count_desks(hall.addresses))?;
-    let mut service = BoardService::new(alloc, title, mirroring, desks)?;
+    let mut service = BoardService::new(alloc, title, mirroring, desks, competition)?;
     say_where(address, PROGRAM, writer)?;
     Ok(serve_on(
+        runtime,
+        alloc,
         browsers,
         &mut service,
         followed,
         streams.as_mut_slice(),
+        renewed,
         faults,
     ))
 }

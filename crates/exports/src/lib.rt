@@ -10,5 +10,5 @@ mod results;
 
 pub use fault::{ExportsFault, ResultsFault, tell_export, tell_notes, tell_results};
 pub use files::{print_export, print_filled};
-pub use logs::{LogFault, read_log};
+pub use logs::{LogFault, opens_any, read_log};
 pub use results::print_results;

@@ -133,7 +133,7 @@ pub fn read_log<R: Read + Drop>(alloc: Global, reader: R) -> Result<NamedMeet, L
 }
 
 /// Whether a first round was opened.
-pub(crate) fn opens_any(meet: &Meet) -> bool
+pub fn opens_any(meet: &Meet) -> bool
     ensures { result ≡ opens_any meet.now.accepted }
 {
     Event::ALL

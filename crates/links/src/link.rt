@@ -5,7 +5,7 @@ ghost use Rattle.std.specs.{Bool.OnTrue, Bool.OnFalse, VecDeque.deque_len, VecDe
 ghost use Rattle.links.specs.Links.{IsUnconnected, new_link, pending, wish_of, wait_of, Pushes};
 ghost use Rattle.links.specs.Links.{after_began, after_opened, after_sent, after_failed};
 ghost use Rattle.links.specs.Links.{after_ended, after_closed, has_room, frames_on, spent_at};
-ghost use Rattle.links.specs.Links.{is_over, left_of, wish_at, wait_at, has_some, oldest_at};
+ghost use Rattle.links.specs.Links.{is_over, left_of, has_some, oldest_at};
 ghost use Rattle.links.specs.declared.stages.LinkAction.TheVariants as wish;
 
 use crate::stages::{LinkAction, LinkStage, PushOutcome};
@@ -91,70 +91,6 @@ fn left_of(now: u64, since: u64, millis: u64) -> u64
     millis.saturating_sub(now.saturating_sub(since))
 }
 
-/// What is to be done in this stage, where frames wait or none does.
-fn wish_at(stage: LinkStage, waits: bool, now: u64) -> LinkAction
-    ensures { result ≡ wish_at stage waits now }
-{
-    match stage {
-        LinkStage::Closed => {
-            if waits {
-                LinkAction::Open
-            } else {
-                LinkAction::Rest
-            }
-        }
-        LinkStage::Paused { since, millis } => {
-            if waits && is_over(now, since, millis) {
-                LinkAction::Open
-            } else {
-                LinkAction::Rest
-            }
-        }
-        LinkStage::Opening { since } => {
-            if is_over(now, since, OPENING) {
-                LinkAction::GiveUp
-            } else {
-                LinkAction::Rest
-            }
-        }
-        LinkStage::Open { frames, quiet } => {
-            if frames >= MOST_FRAMES {
-                LinkAction::Close
-            } else if waits {
-                LinkAction::Write
-            } else if is_over(now, quiet, QUIET) {
-                LinkAction::Close
-            } else {
-                LinkAction::Rest
-            }
-        }
-    }
-}
-
-/// How long the wish stays in this stage, where frames wait or none does.
-fn wait_at(stage: LinkStage, waits: bool, now: u64) -> Option<u64>
-    ensures { result ≡ wait_at stage waits now }
-{
-    match stage {
-        LinkStage::Closed => None,
-        LinkStage::Paused { since, millis } => {
-            if waits {
-                Some(left_of(now, since, millis))
-            } else {
-                None
-            }
-        }
-        LinkStage::Opening { since } => Some(left_of(now, since, OPENING)),
-        LinkStage::Open { quiet, .. } => {
-            if waits {
-                None
-            } else {
-                Some(left_of(now, quiet, QUIET))
-            }
-        }
-    }
-}
-
 /// The link from this desk to one other desk. Frames that are pushed wait in a queue, and are sent
 /// in the order of their pushes, each once, on connections that the link asks for.
 ///
@@ -224,7 +160,40 @@ impl Link {
         ensures unconnected { result ≡ wish.Open → IsUnconnected self.now.stage }
         ensures between { result ≡ wish.Close → self.now.begun ≡ 0 }
     {
-        wish_at(self.stage, self.waits(), now)
+        match self.stage {
+            LinkStage::Closed => {
+                if self.waits() {
+                    LinkAction::Open
+                } else {
+                    LinkAction::Rest
+                }
+            }
+            LinkStage::Paused { since, millis } => {
+                if self.waits() && is_over(now, since, millis) {
+                    LinkAction::Open
+                } else {
+                    LinkAction::Rest
+                }
+            }
+            LinkStage::Opening { since } => {
+                if is_over(now, since, OPENING) {
+                    LinkAction::GiveUp
+                } else {
+                    LinkAction::Rest
+                }
+            }
+            LinkStage::Open { frames, quiet } => {
+                if frames >= MOST_FRAMES {
+                    LinkAction::Close
+                } else if self.waits() {
+                    LinkAction::Write
+                } else if is_over(now, quiet, QUIET) {
+                    LinkAction::Close
+                } else {
+                    LinkAction::Rest
+                }
+            }
+        }
     }
 
     /// In how many milliseconds the wish may become another one with no call made: at most 1,000.
@@ -234,7 +203,24 @@ impl Link {
         ensures soon { IfSome result (λ millis. millis ≤ 1000) }
         ensures over { result ≡ Some 0 → wish_of self.now now ≢ wish.Rest }
     {
-        wait_at(self.stage, self.waits(), now)
+        match self.stage {
+            LinkStage::Closed => None,
+            LinkStage::Paused { since, millis } => {
+                if self.waits() {
+                    Some(left_of(now, since, millis))
+                } else {
+                    None
+                }
+            }
+            LinkStage::Opening { since } => Some(left_of(now, since, OPENING)),
+            LinkStage::Open { quiet, .. } => {
+                if self.waits() {
+                    None
+                } else {
+                    Some(left_of(now, quiet, QUIET))
+                }
+            }
+        }
     }
 
     /// Whether a frame waits.

@@ -3,6 +3,7 @@
 use clap::builder::ValueParser;
 use clap::{Arg, ArgAction, ArgMatches, Command, Error};
 use command_line::borrowed;
+use competition_file::{CompetitionFile, file_given};
 use fault_hints::{explain_listening, is_wanted};
 use hall_file::hall_options::{
     FoundHall, Mistake, address_at, hall_of, option, tell, tell_mistake, tell_parse_error,
@@ -12,6 +13,7 @@ use hall_survey::Hall;
 use http_server::Config;
 use outbox::JournalFault;
 use pages::{BrowserLimits, browsers_at};
+use renewed_file::RenewedFile;
 use std::alloc::{AllocError, Global};
 use std::io::{ErrorKind, Read, Write};
 use std::net::SocketAddr;
@@ -62,6 +64,14 @@ Where a later round is opened, the page proposes what the file of --setup says o
 as `desk import` writes it: `# OPEN 333 2 ao5 - 60000 top:8`. The file is read once, at the start,
 and without that option it is setup.txt, if there is one. Only who opens the round decides.
 
+Of the competition's file of --wcif, a WCIF, the scorecards of http://ADDR/scorecards/333-1 have the
+WCA ID, the group and the station, and come in that order; a time far below the best that it knows
+is asked about once; http://ADDR/before says what is open before the results are sent in; and
+without SETUP later rounds are proposed as the file has them at the start. Nothing is entered that
+would not be entered without it. A newer file of the same competition at its path takes its place
+some seconds later; where it is damaged, or of another competition, standard error gets a line that
+says so, and the file before is kept.
+
 The desks are those of --hall and --to, or without these all desks of the hall that FILE describes.
 Where they have a key, it is in the file of --key, or in the one that FILE names. Standard error
 gets a line where a desk has another key, has no key, has a key and the score table has none, or is
@@ -70,9 +80,10 @@ Anybody who reaches ADDR can enter results, so it has to be an address of this m
 127.0.0.1:8081, unless --open-network is given.
 
 Exit status: 2 invalid arguments, or help or the version; 3 FILE describes no hall, the key's file
-gives no key, or the journal is damaged, of another hall, or of an earlier scoretable; 4 an invalid
-address, the journal or the file of --setup cannot be used, cannot listen, cannot continue, or two
-desks have different commands; 5 no memory. Standard error gets a line that says why.";
+gives no key, that of --wcif cannot be read or is no competition's, or the journal is damaged, of
+another hall, or of an earlier scoretable; 4 an invalid address, the journal or the file of --setup
+cannot be used, cannot listen, cannot continue, or two desks have different commands; 5 no memory.
+Standard error gets a line that says why.";
 
 /// The most browsers whose connections are open at once. With the longest bodies they take half a
 /// GiB.
@@ -110,6 +121,7 @@ fn command<'a>(alloc: Global) -> Result<Command<'a>, AllocError> {
     let name = "The name of this table in the log, 1 to 60 bytes; without this option A";
     let journal = "The file that keeps what was entered; without this option scoretable.journal";
     let setup = "The file that `desk import` printed; without this option setup.txt if it is there";
+    let wcif = "The competition's file of the WCA's site, beside the list; see below";
     let open = Arg::new(alloc, "open-network")
         .long("open-network")
         .help("Lets ADDR be one that other machines reach")
@@ -124,6 +136,7 @@ fn command<'a>(alloc: Global) -> Result<Command<'a>, AllocError> {
         .arg(option(alloc, "name", "TEXT", name, ValueParser::string()))?
         .arg(option(alloc, "journal", "FILE", journal, ValueParser::string()))?
         .arg(option(alloc, "setup", "FILE", setup, ValueParser::string()))?
+        .arg(option(alloc, "wcif", "FILE", wcif, ValueParser::string()))?
         .arg(open)?
         .arg(explain)
 }
@@ -273,6 +286,26 @@ fn tell_listening<F: Write>(
     status
 }
 
+/// What is proposed: these lines, or where there are none what the competition's file says.
+fn proposals_with(
+    alloc: Global,
+    lines: Vec<u8>,
+    competition: Option<&CompetitionFile>,
+) -> Result<Vec<u8>, AllocError> {
+    match competition {
+        Some(file) if lines.is_empty() => file.proposals(alloc),
+        _ => Ok(lines),
+    }
+}
+
+/// The competition's file at the path of `--wcif`, which a newer one may replace.
+fn renewed_of<'a>(rt: &HostRuntime, found: &ArgMatches<'a>) -> Option<RenewedFile<'a>> {
+    match found.get_str("wcif") {
+        Some(path) => Some(RenewedFile::new(rt, path)),
+        None => None,
+    }
+}
+
 /// Listens and serves until the system fails, and returns the status.
 fn run_order<W: Write, F: Write>(
     rt: &HostRuntime,
@@ -294,6 +327,14 @@ fn run_order<W: Write, F: Write>(
         let why = "the journal's last line was cut off: left out";
         let _ = writeln!(faults, "{PROGRAM}: {why}");
     }
+    let mut renewed = renewed_of(rt, found);
+    let competition = match file_given(rt, found.get_str("wcif"), PROGRAM, faults) {
+        Ok(competition) => competition,
+        Err(status) => return status,
+    };
+    let Ok(proposals) = proposals_with(alloc, proposals, competition.as_ref()) else {
+        return tell(faults, PROGRAM, "no memory", 5);
+    };
     let mut config = Config::default();
     config.limits.max_head_len = LONGEST_HEAD;
     config.max_body_len = LONGEST_BODY;
@@ -312,7 +353,18 @@ fn run_order<W: Write, F: Write>(
         key: hall.key,
     };
     match serve(
-        rt, alloc, asked, title, name, proposals, journal, browsers, writer, faults,
+        rt,
+        alloc,
+        asked,
+        title,
+        name,
+        proposals,
+        competition,
+        &mut renewed,
+        journal,
+        browsers,
+        writer,
+        faults,
     ) {
         Ok(ScoreTableEnd::Failed) => tell(faults, PROGRAM, "cannot continue", 4),
         Ok(ScoreTableEnd::Broken) => tell(faults, PROGRAM, BROKEN, 4),

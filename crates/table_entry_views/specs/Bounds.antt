@@ -1,5 +1,5 @@
 -- Below which a time is asked about (the project's own).
-use Rattle.std.specs.Prelude.{ℕ, List, Option, filter_map}
+use Rattle.std.specs.Prelude.{ℕ, ◌+◌, ◌*◌, List, Option, None, Some, filter_map}
 use Rattle.attempts.specs.declared.Value.{Value}
 use Rattle.formats.specs.declared.events.Event.{Event}
 use Rattle.formats.specs.declared.events.Event.TheVariants.{Cube3, Cube2, Cube4, Cube5, Cube6}
@@ -9,6 +9,12 @@ use Rattle.formats.specs.declared.events.Event.TheVariants.{Square1, Blind4, Bli
 use Rattle.formats.specs.Results.{best_of, least, number_of}
 use Rattle.rounds.specs.Tables.{Table, standings}
 use Rattle.table_views.specs.Standing.{values_of}
+use Rattle.texts.specs.declared.command.Entered.{Entered, TheVariants.Time}
+
+-- the time of a field, with its penalties, in hundredths of a second
+abbrev pub time_of : Option Entered → Option ℕ
+time_of (Some (Time hundredths penalties)) = Some (hundredths + 200 * penalties)
+time_of _ = None
 
 -- a time in hundredths of a second, clearly below the best single that anybody ever had; 0 where
 -- times are not what counts

@@ -8,3 +8,4 @@ pub mod Beside
 pub mod Origin
 pub mod Page
 pub mod paper
+pub mod Doubts

@@ -9,9 +9,13 @@ use Rattle.table_entry_views.specs.declared.notes.CardNote.{CardNote}
 use Rattle.table_entry_views.specs.declared.notes.CardNote.TheVariants.{Number, Field, Card, Unlike}
 use Rattle.table_entry_views.specs.declared.notes.CardNote.TheVariants.{Changes, Refused, Fast}
 use Rattle.table_entry_views.specs.declared.notes.CardNote.TheVariants.{Half, Unsolved, Repeats}
+use Rattle.table_entry_views.specs.declared.notes.CardNote.TheVariants.{BelowBest, BelowField}
+use Rattle.attempts.specs.{Texts.value_text, declared.Unit.TheVariants.Time}
 use Rattle.texts.specs.{declared.answer.Code.Code, Codes.code_number, meanings.Meanings.meaning_of}
 use Rattle.table_entry_views.specs.declared.notes.TheConstants.{FIELD_END, GAP, HALF, MORE_SOLVED}
 use Rattle.table_entry_views.specs.declared.notes.TheConstants.{NUMBERED, SAID_START, UNSOLVED}
+use Rattle.table_entry_views.specs.declared.notes.TheConstants.{BELOW_BEST, BELOW_FIELD}
+use Rattle.attempts.specs.declared.Value.TheVariants as value
 use Rattle.card_forms.specs.declared.faults.NumberFault.TheVariants as number
 use Rattle.card_forms.specs.declared.faults.CardFault.TheVariants as card
 use Rattle.scorecard.specs.declared.fault.ScorecardFault.TheVariants as field
@@ -36,6 +40,8 @@ place_of (Card fault) = place_of_fault fault
 place_of (Refused why) = place_of_code why
 place_of (Fast attempt) = attempt
 place_of (Half attempt) = attempt
+place_of (BelowBest attempt time best) = attempt
+place_of (BelowField attempt time best) = attempt
 place_of (Unlike attempt) = attempt
 place_of (Unsolved attempt) = attempt
 place_of Repeats = 3
@@ -58,6 +64,8 @@ abbrev pub note_word : CardNote → List ℕ
 note_word (Refused why) = numbered (codes "refused-") (code_number why)
 note_word (Fast attempt) = numbered (codes "fast-") attempt
 note_word (Half attempt) = numbered (codes "half-") attempt
+note_word (BelowBest attempt time best) = numbered (codes "best-") attempt
+note_word (BelowField attempt time best) = numbered (codes "field-") attempt
 note_word (Unlike attempt) = numbered (codes "unlike-") attempt
 note_word (Unsolved attempt) = numbered (codes "unsolved-") attempt
 note_word Repeats = codes "repeats"
@@ -108,6 +116,13 @@ abbrev pub unsolved_words : ℕ → List ℕ
 unsolved_words attempt =
     fill UNSOLVED.now (decimal attempt ∷ [])
 
+abbrev pub time_words : ℕ → List ℕ
+time_words time = value_text Time (value.Number time)
+
+-- with which best of the competition's file a time is compared
+abbrev pub below_words : List ℕ → ℕ → ℕ → List ℕ
+below_words words time best = fill words (time_words time ∷ time_words best ∷ [])
+
 abbrev pub note_words : CardNote → List ℕ
 note_words (Number fault) = number_words fault
 note_words (Field attempt fault) = field_words fault
@@ -115,6 +130,8 @@ note_words (Card fault) = card_words fault
 note_words (Refused why) = refused_words why
 note_words (Fast attempt) = codes "nobody has ever been that fast: is it right?"
 note_words (Half attempt) = HALF.now
+note_words (BelowBest attempt time best) = below_words BELOW_BEST.now time best
+note_words (BelowField attempt time best) = below_words BELOW_FIELD.now time best
 note_words (Unlike attempt) =
     codes "more than twice or less than half of the others: is it right?"
 note_words (Unsolved attempt) = unsolved_words attempt

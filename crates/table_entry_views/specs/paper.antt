@@ -1,3 +1,6 @@
 pub mod Frame
 pub mod Wall
 pub mod Scorecards
+pub mod Seating
+pub mod Foot
+pub mod Lists

@@ -1,13 +1,30 @@
 //! Below which a time is asked about.
 
-ghost use Rattle.std.specs.Prelude.{◌≡◌, IfOk};
-ghost use Rattle.table_entry_views.specs.Bounds.{best_in, floor_of, single_in, single_of};
+ghost use Rattle.std.specs.Prelude.{◌≡◌, ◌<◌, ◌^◌, IfOk, IfSome};
+ghost use Rattle.table_entry_views.specs.Bounds.{best_in, floor_of, single_in, single_of, time_of};
 
 use acceptor::NoMemory;
 use attempts::Value;
 use formats::{Event, best};
 use rounds::RoundTable;
 use table_views::values_of;
+use texts::Entered;
+
+/// The time of a field, with its penalties, in hundredths of a second.
+pub fn time_of(field: &Option<Entered>) -> Option<u64>
+    ensures time { result ≡ time_of field.now }
+    ensures small { IfSome result (λ time. time < 2 ^ 33) }
+{
+    match field {
+        Some(
+            Entered::Time {
+                hundredths,
+                penalties,
+            },
+        ) => Some(u64::from(*hundredths) + 200 * u64::from(*penalties)),
+        _ => None,
+    }
+}
 
 /// A time in hundredths of a second, clearly below the best single that anybody ever had. It is 0
 /// in fewest moves and in multi-blind.

@@ -5,6 +5,7 @@
 mod beside;
 mod bounds;
 mod card;
+mod doubts;
 mod draft;
 mod fields;
 mod history;
@@ -15,7 +16,8 @@ mod page;
 pub mod paper;
 mod past;
 
-pub use bounds::{best_in, floor_of, single_of};
+pub use bounds::{best_in, floor_of, single_of, time_of};
+pub use doubts::note_by_file;
 pub use draft::Draft;
 pub use history::history_page;
 pub use notes::{CardNote, note_word};

@@ -2,6 +2,8 @@
 
 ghost use Rattle.std.specs.Prelude.{◌≡◌, ◌++◌, IfOk, OnOk, flat_map};
 ghost use Rattle.std.specs.List.{list_any};
+ghost use Rattle.markup.specs.Pieces.{holes};
+ghost use Rattle.table_entry_views.specs.Notes.{below_words};
 ghost use Rattle.table_entry_views.specs.Notes.{card_words, invalid_if, is_wrong_at, other_words};
 ghost use Rattle.table_entry_views.specs.Notes.{field_end, is_changed, note_line, note_words};
 ghost use Rattle.table_entry_views.specs.Notes.{field_words, is_fault, number_words, refused_words};
@@ -9,6 +11,7 @@ ghost use Rattle.table_entry_views.specs.Notes.{note_at, note_word, numbered, pl
 ghost use Rattle.table_entry_views.specs.Notes.{place_of_code, place_of_fault, unsolved_words};
 
 use acceptor::NoMemory;
+use attempts::{Unit, Value, print_value};
 use card_forms::{CardFault, NumberFault};
 use markup::Piece::{Html, Number};
 use markup::fill;
@@ -37,6 +40,19 @@ pub enum CardNote {
     /// A time is less than half of the best single of the round, or of the competitor's in another.
     Half {
         attempt: u8,
+    },
+    /// A time is less than 0.8 of the competitor's best single in the competition's file.
+    BelowBest {
+        attempt: u8,
+        time: u32,
+        best: u32,
+    },
+    /// A time is less than half of the least best single, in the competition's file, of those who
+    /// are in the round.
+    BelowField {
+        attempt: u8,
+        time: u32,
+        best: u32,
     },
     /// A time is more than twice or less than half of the others.
     Unlike {
@@ -92,6 +108,8 @@ fn place_of(note: CardNote) -> u8
         CardNote::Field { attempt, .. }
         | CardNote::Fast { attempt }
         | CardNote::Half { attempt }
+        | CardNote::BelowBest { attempt, .. }
+        | CardNote::BelowField { attempt, .. }
         | CardNote::Unlike { attempt }
         | CardNote::Unsolved { attempt }
         | CardNote::Changes { attempt } => attempt,
@@ -108,6 +126,8 @@ fn is_fault(note: CardNote) -> bool
         CardNote::Refused(_)
         | CardNote::Fast { .. }
         | CardNote::Half { .. }
+        | CardNote::BelowBest { .. }
+        | CardNote::BelowField { .. }
         | CardNote::Unlike { .. }
         | CardNote::Unsolved { .. }
         | CardNote::Repeats
@@ -211,6 +231,23 @@ fn push_unsolved(out: &mut Vec<u8>, attempt: u8) -> Result<(), NoMemory>
     fill(out, UNSOLVED, &[Number(attempt as u64)])
 }
 
+const BELOW_BEST: &[u8] = b"\
+$ is less than 0.8 of $, this competitor's best by the competition's file: is it right?";
+
+const BELOW_FIELD: &[u8] = b"\
+$ is less than half of $, the best in this round by the competition's file: is it right?";
+
+/// Adds with which best a time is compared, in these words.
+fn push_below(out: &mut Vec<u8>, words: &[u8], time: u32, best: u32) -> Result<(), NoMemory>
+    requires { holes words.now ≡ 2 }
+    ensures { OnOk result (out.new.items ≡ out.old.items ++ below_words words.now time best) }
+{
+    let alloc = *out.allocator();
+    let time = print_value(alloc, Value::Number(time), Unit::Time)?;
+    let best = print_value(alloc, Value::Number(best), Unit::Time)?;
+    fill(out, words, &[Html(&time), Html(&best)])
+}
+
 /// Adds a note in words.
 fn push_words(out: &mut Vec<u8>, note: CardNote) -> Result<(), NoMemory>
     ensures { OnOk result (out.new.items ≡ out.old.items ++ note_words note) }
@@ -224,6 +261,8 @@ fn push_words(out: &mut Vec<u8>, note: CardNote) -> Result<(), NoMemory>
             out.extend_from_slice(b"nobody has ever been that fast: is it right?")
         }
         CardNote::Half { .. } => out.extend_from_slice(HALF),
+        CardNote::BelowBest { time, best, .. } => push_below(out, BELOW_BEST, time, best),
+        CardNote::BelowField { time, best, .. } => push_below(out, BELOW_FIELD, time, best),
         CardNote::Unlike { .. } => {
             out.extend_from_slice(b"more than twice or less than half of the others: is it right?")
         }
@@ -255,6 +294,8 @@ pub(crate) fn push_note_word(out: &mut Vec<u8>, note: CardNote) -> Result<(), No
         CardNote::Refused(code) => push_numbered(out, b"refused-", code.number()),
         CardNote::Fast { attempt } => push_numbered(out, b"fast-", attempt),
         CardNote::Half { attempt } => push_numbered(out, b"half-", attempt),
+        CardNote::BelowBest { attempt, .. } => push_numbered(out, b"best-", attempt),
+        CardNote::BelowField { attempt, .. } => push_numbered(out, b"field-", attempt),
         CardNote::Unlike { attempt } => push_numbered(out, b"unlike-", attempt),
         CardNote::Unsolved { attempt } => push_numbered(out, b"unsolved-", attempt),
         CardNote::Repeats => out.extend_from_slice(b"repeats"),

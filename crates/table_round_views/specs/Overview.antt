@@ -11,7 +11,8 @@ use Rattle.texts.specs.declared.command.{Command.Command, RoundId.RoundId, Setti
 use Rattle.markup.specs.Pieces.{fill}
 use Rattle.table_views.specs.{declared.around.PageContext.PageContext, Logs.accepted_in}
 use Rattle.table_views.specs.{Frame.top, Frame.bottom, Recent.recent_section}
-use Rattle.table_round_views.specs.declared.all_rounds.TheConstants.{LINK, ROW, SECTION_HEAD}
+use Rattle.table_round_views.specs.declared.all_rounds.TheConstants.{BEFORE, LINK, ROW}
+use Rattle.table_round_views.specs.declared.all_rounds.TheConstants.{SECTION_HEAD}
 
 abbrev pub link_end : List ℕ → List ℕ
 link_end words = fill LINK.now (words ∷ [])
@@ -62,10 +63,17 @@ section accepted =
     ++ flat_map (event_lines accepted) all_events
     ++ codes "</tbody></table>\n<p><a href=\"/rounds\">Open a round</a></p></section>\n"
 
+-- the link to what is open before the results are sent in, where a competition's file is beside the
+-- list
+abbrev pub before_link : Bool → List ℕ
+before_link true = BEFORE.now
+before_link false = []
+
 -- the page of all rounds, with the cards and commands of late
-unfoldable pub overview : PageContext → List ℕ
-overview around =
+unfoldable pub overview : PageContext → Bool → List ℕ
+overview around beside =
     top (codes "hall") (codes "Score table") around
     ++ section (accepted_in around.mirror.now)
+    ++ before_link beside
     ++ recent_section around
     ++ bottom

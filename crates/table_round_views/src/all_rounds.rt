@@ -1,8 +1,8 @@
 //! The page of all rounds.
 
 ghost use Rattle.std.specs.Prelude.{◌≡◌, ◌++◌, IfOk, OnOk, flat_map};
-ghost use Rattle.table_round_views.specs.Overview.{event_lines, link_cell, overview, round_in};
-ghost use Rattle.table_round_views.specs.Overview.{round_line, section, state_cell};
+ghost use Rattle.table_round_views.specs.Overview.{before_link, event_lines, link_cell, overview};
+ghost use Rattle.table_round_views.specs.Overview.{round_in, round_line, section, state_cell};
 
 use acceptor::NoMemory;
 use commands::Meet;
@@ -111,13 +111,31 @@ fn push_section(out: &mut Vec<u8>, meet: &Meet) -> Result<(), NoMemory>
     )
 }
 
+const BEFORE: &[u8] = b"\
+<section id=\"sending\"><p><a href=\"/before\">Before you send the results</a></p></section>
+";
+
+/// Adds the link to what is open before the results are sent in, where a competition's file is
+/// beside the list.
+fn push_before(out: &mut Vec<u8>, beside: bool) -> Result<(), NoMemory>
+    ensures { OnOk result (out.new.items ≡ out.old.items ++ before_link beside) }
+{
+    if beside {
+        out.extend_from_slice(BEFORE)
+    } else {
+        Ok(())
+    }
+}
+
 /// The page of all rounds that were opened: whether each is open, how far its entrants have come,
-/// and links to its cards, its forms and its paper.
-pub fn overview(alloc: Global, around: &PageContext<'_>) -> Result<Vec<u8>, NoMemory>
-    ensures { IfOk result (λ page. page.items ≡ overview around.entry.now) }
+/// and links to its cards, its forms and its paper; and where a competition's file is beside the
+/// list, a link to what is open before the results are sent in.
+pub fn overview(alloc: Global, around: &PageContext<'_>, beside: bool) -> Result<Vec<u8>, NoMemory>
+    ensures { IfOk result (λ page. page.items ≡ overview around.entry.now beside) }
 {
     let mut page = start_page(alloc, around, b"Score table")?;
     push_section(&mut page, around.mirror.meet())?;
+    push_before(&mut page, beside)?;
     push_end(&mut page, around)?;
     Ok(page)
 }

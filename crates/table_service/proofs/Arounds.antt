@@ -51,13 +51,17 @@ recent_seen log held q list recents shown same_log same_list same are =
     (subst (λ (rs : List Recent). AreRecent log q rs) (sym same) are))
 
 pub around_planned : (s : ServiceOf) (set : List ℕ) (request : Request (List ℕ))
-    (around : PageContext) (title : List ℕ) (q : ItemsOf) (r : Result RequestPlan AllocError)
-    → IfOk r (PlansOwn around title q request) → IsAround s set request around → title ≡ s.title
-    → q ≡ s.outbox.list → IfOk r (PlansAround s set request)
-around_planned s set request around title q (Ok plan) plans is named same = record {
+    (around : PageContext)
+    (title : List ℕ) (competition : Option (List ℕ)) (q : ItemsOf)
+    (r : Result RequestPlan AllocError)
+    → IfOk r (PlansOwn around title competition q request) → IsAround s set request around
+    → title ≡ s.title → competition ≡ s.competition → q ≡ s.outbox.list
+    → IfOk r (PlansAround s set request)
+around_planned s set request around title file q (Ok plan) plans is named told same = record {
   around = around;
   is = is;
-  plans = subst (λ (t : List ℕ). PlansOwn around t s.outbox.list request plan) named
-      (subst (λ (z : ItemsOf). PlansOwn around title z request plan) same plans);
+  plans = subst (λ (t : List ℕ). PlansOwn around t s.competition s.outbox.list request plan) named
+      (subst (λ (o : Option (List ℕ)). PlansOwn around title o s.outbox.list request plan) told
+      (subst (λ (z : ItemsOf). PlansOwn around title file z request plan) same plans));
 }
-around_planned s set request around title q (Err error) plans is named same = tt
+around_planned s set request around title file q (Err error) plans is named told same = tt

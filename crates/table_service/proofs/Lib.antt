@@ -21,3 +21,4 @@ pub mod SentOnes
 pub mod Running
 pub mod Fronts
 pub mod OverFiles
+pub mod Beside

@@ -1,8 +1,8 @@
 -- What is planned for requests, by cases: entries are taken for forms alone that ask for them.
 use Rattle.std.proofs.Common.{◌≡◌, ◌∙◌, inl, inr, Bool, true, false, ℕ, List, [], ◌∷◌, ap, bytes_eq}
 use Rattle.std.proofs.Common.{codes, subst, sym, Option, None, Some, Result, Ok, Err, refl, get_or}
-use Rattle.std.proofs.Common.{is_some, length, map, slice_get, ◌||◌, if◌then◌else◌}
-use Rattle.std.proofs.lemmas.Slice.Eq.{bytes_eq-Decides}
+use Rattle.std.proofs.Common.{is_some, length, map, slice_get, ◌++◌, ◌&&◌, ◌||◌, if◌then◌else◌}
+use Rattle.std.proofs.lemmas.{List.Folds.list_all-append, Slice.Eq.bytes_eq-Decides}
 use Rattle.acceptor.specs.declared.entry.Entry.{Entry}
 use Rattle.attempts.specs.declared.Value.{Value}
 use Rattle.http.specs.declared.request.Request.{Request}
@@ -24,14 +24,16 @@ use Rattle.table_service.specs.declared.{plan.PageStatus.PageStatus, reading.Res
 use Rattle.table_service.specs.Answering.{PlansAgainCard, PlansAgainId, PlansAgainItem, again_entry}
 use Rattle.table_service.specs.Answering.{PlansAgainEntry, PlansAnsweredId, PlansAnsweredItem}
 use Rattle.table_service.specs.Answering.{PlansAgainIf, PlansLeaving, card_over, id_of}
-use Rattle.table_service.specs.{Asked.asked_at, Checks.doubts, Imports.content_of, Taking.sent_as}
+use Rattle.table_service.specs.{Asked.asked_at, Imports.content_of, Taking.sent_as}
+use Rattle.table_service.specs.Checks.{all_doubts, doubts, file_doubts}
 use Rattle.table_service.specs.{Gate.has_token, Gate.is_own, Lists.would_be_done, Sent.PlansFormAt}
 use Rattle.table_service.specs.Imports.{PlansBody, PlansCarried, PlansPartsIf, boundary_in}
 use Rattle.table_service.specs.Laws.{AsksAgain, AsksBack, AsksFor, AsksForCard, IsForm}
 use Rattle.table_service.specs.Lists.{LooksAt, PlansAsked, PlansLines, PlansListOf, is_known}
 use Rattle.table_service.specs.Plans.{HoldsCard, PlansCardAs, PlansCardEntry, PlansCardIf}
 use Rattle.table_service.specs.Plans.{PlansCommand, PlansFit, PlansForm, PlansSpelled, ShowsView}
-use Rattle.table_service.specs.Plans.{are_confirmed, cards_place, is_entered, page_after, remark_in}
+use Rattle.table_service.specs.Plans.{are_confirmed, cards_place, is_confirmed, is_entered}
+use Rattle.table_service.specs.Plans.{page_after, remark_in}
 use Rattle.table_service.specs.{Remarks.remark_of, Remarks.remark_under, Sent.PlansPosted}
 use Rattle.table_service.specs.Replying.{GoesTo, ShowsAs, refuses, shows}
 use Rattle.table_service.specs.Requests.{is_post, is_read, path_of, query_of, sent_pairs}
@@ -63,6 +65,18 @@ unknown_by (Some item) entry unsent others =
         → true ≡ false
     by true same others = same
     by false same others = absurd (cc)
+
+-- all of two lists of notes are confirmed where those of each are
+pub both_confirmed : (sure : List ℕ) (notes more : List CardNote)
+    → are_confirmed sure (notes ++ more) ≡ true
+    → (are_confirmed sure notes ≡ true) × (are_confirmed sure more ≡ true)
+both_confirmed sure notes more are =
+    by (are_confirmed sure notes) (are_confirmed sure more)
+    (sym (list_all-append (is_confirmed sure) notes more) ∙ are)
+  where
+    by : (these those : Bool) → (these && those) ≡ true → (these ≡ true) × (those ≡ true)
+    by true those are = (refl, are)
+    by false those are = absurd (cc)
 
 is_unknown : (q : ItemsOf) (entry : Entry) → is_sent q entry ≡ false
     → other_in q (entry ∷ []) ≡ None → is_some (item_in q entry.id) ≡ false
@@ -105,12 +119,12 @@ module _ (More : Type 0) (log : List Entry) (q : ItemsOf) (path : List ℕ) (pai
   page status None is = refused problem.NotFound is
   page status (Some text) is = ids is.1
 
-  view : (around : PageContext) (title : List ℕ) (what : Option Resource)
-      → ShowsView q around title what plan → Found
-  view around title None is = refused problem.NotFound is
-  view around title (Some asked.Style) is = shown reply.Style is
-  view around title (Some asked.Script) is = shown reply.Script is
-  view around title (Some (asked.Page what)) is = page _ is.0 is.2
+  view : (around : PageContext) (title : List ℕ) (competition : Option (List ℕ))
+      (what : Option Resource) → ShowsView q around title competition what plan → Found
+  view around title competition None is = refused problem.NotFound is
+  view around title competition (Some asked.Style) is = shown reply.Style is
+  view around title competition (Some asked.Script) is = shown reply.Script is
+  view around title competition (Some (asked.Page what)) is = page _ is.0 is.2
 
   -- looking at lines, or at a competition's file, accepts nothing
   looked : (around : PageContext) (back lines : List ℕ) → LooksAt around back lines plan → Found
@@ -175,11 +189,11 @@ module _ (More : Type 0) (log : List Entry) (q : ItemsOf) (path : List ℕ) (pai
         → HoldsCard q around form notes status plan → Found
     held form notes status holds = page status holds.page holds.shows
 
-    module _ (at : path ≡ codes "/card")
+    module _ (competition : Option (List ℕ)) (at : path ≡ codes "/card")
         (latest : is_latest (accepted_in around.mirror.now) ≡ true) (form : CardForm)
         (sent : card_form_of pairs ≡ Ok form) where
       abbrev notes_of : CardEntry → List CardNote
-      notes_of card = doubts (accepted_in around.mirror.now) card
+      notes_of card = all_doubts competition (accepted_in around.mirror.now) card
 
       module _ (card : CardEntry) (read : IsReadAs form card) (entry : Entry)
           (is : card_entry form.id card around.remark.now ≡ Some entry) (it : CardEntry)
@@ -200,7 +214,9 @@ module _ (More : Type 0) (log : List Entry) (q : ItemsOf) (path : List ℕ) (pai
               sure = by_log
                   (λ (es : List Entry).
                   are_confirmed (value_of (codes "sure") pairs) (doubts (accepted_in es) it) ≡ true)
-                  sure;
+                  (both_confirmed (value_of (codes "sure") pairs)
+                  (doubts (accepted_in around.mirror.now) it)
+                  (file_doubts competition (accepted_in around.mirror.now) it) sure).0;
               alone = refl;
             }
 
@@ -227,7 +243,8 @@ module _ (More : Type 0) (log : List Entry) (q : ItemsOf) (path : List ℕ) (pai
         card_entered unsent false entered plans = held form _ _ plans
 
         card_fit : (known : Bool) → is_sent q entry ≡ known
-            → PlansFit known q around form (value_of (codes "sure") pairs) entry it plan → Found
+            → PlansFit known q around competition form (value_of (codes "sure") pairs) entry it plan
+            → Found
         card_fit true unsent plans = nothing plans.1
         card_fit false unsent plans =
             card_entered unsent
@@ -236,32 +253,35 @@ module _ (More : Type 0) (log : List Entry) (q : ItemsOf) (path : List ℕ) (pai
       card_spelled : (card : CardEntry) → IsReadAs form card → (entry : Entry)
           → card_entry form.id card around.remark.now ≡ Some entry → (it : Option CardEntry)
           → card_in entry.text ≡ it
-          → PlansSpelled q around form (value_of (codes "sure") pairs) entry it plan → Found
+          → PlansSpelled q around competition form (value_of (codes "sure") pairs) entry it plan
+          → Found
       card_spelled card read entry is None spells plans = refused problem.BadForm plans
       card_spelled card read entry is (Some it) spells plans =
           card_fit card read entry is it spells (is_sent q entry) refl plans
 
       card_as : (card : CardEntry) → IsReadAs form card → (entry : Option Entry)
           → card_entry form.id card around.remark.now ≡ entry
-          → PlansCardAs q around form (value_of (codes "sure") pairs) entry plan → Found
+          → PlansCardAs q around competition form (value_of (codes "sure") pairs) entry plan → Found
       card_as card read None is plans = held form _ _ plans
       card_as card read (Some entry) is plans =
           card_spelled card read entry is (card_in entry.text) refl plans
 
-    card_form : path ≡ codes "/card" → is_latest (accepted_in around.mirror.now) ≡ true
+    card_form : (competition : Option (List ℕ)) → path ≡ codes "/card"
+        → is_latest (accepted_in around.mirror.now) ≡ true
         → (r : Result CardForm CardFormFault) → card_form_of pairs ≡ r
-        → PlansForm q around (value_of (codes "sure") pairs) r plan → Found
-    card_form at latest (Err why) is plans = refused problem.BadForm plans
-    card_form at latest (Ok form) is (inl reads) =
-        card_as at latest form is reads.entry reads.read
+        → PlansForm q around competition (value_of (codes "sure") pairs) r plan → Found
+    card_form competition at latest (Err why) is plans = refused problem.BadForm plans
+    card_form competition at latest (Ok form) is (inl reads) =
+        card_as competition at latest form is reads.entry reads.read
         (card_entry form.id reads.entry around.remark.now) refl reads.plans
-    card_form at latest (Ok form) is (inr unread) = held form _ _ unread.2
+    card_form competition at latest (Ok form) is (inr unread) = held form _ _ unread.2
 
-    card_if : path ≡ codes "/card" → (latest : Bool)
+    card_if : (competition : Option (List ℕ)) → path ≡ codes "/card" → (latest : Bool)
         → is_latest (accepted_in around.mirror.now) ≡ latest
-        → PlansCardIf latest around q pairs plan → Found
-    card_if at false latest plans = ids plans.1
-    card_if at true latest plans = card_form at latest (card_form_of pairs) refl plans
+        → PlansCardIf latest around competition q pairs plan → Found
+    card_if competition at false latest plans = ids plans.1
+    card_if competition at true latest plans =
+        card_form competition at latest (card_form_of pairs) refl plans
 
     -- ---- a command, and several
 
@@ -492,14 +512,15 @@ module _ (More : Type 0) (log : List Entry) (q : ItemsOf) (path : List ℕ) (pai
     sent_lines false false at plans =
         sent_answers (bytes_eq path (codes "/again")) refl plans
 
-    sent : (card one : Bool) → bytes_eq path (codes "/card") ≡ card
-        → bytes_eq path (codes "/command") ≡ one → PlansAt around q path pairs card one plan → Found
-    sent true one at other plans =
-        card_if ((bytes_eq-Decides path (codes "/card")).0 at)
+    sent : (competition : Option (List ℕ)) (card one : Bool) → bytes_eq path (codes "/card") ≡ card
+        → bytes_eq path (codes "/command") ≡ one
+        → PlansAt around competition q path pairs card one plan → Found
+    sent competition true one at other plans =
+        card_if competition ((bytes_eq-Decides path (codes "/card")).0 at)
         (is_latest (accepted_in around.mirror.now)) refl plans
-    sent false true other at plans =
+    sent competition false true other at plans =
         command ((bytes_eq-Decides path (codes "/command")).0 at) plans
-    sent false false other another plans =
+    sent competition false false other another plans =
         sent_lines (bytes_eq path (codes "/commands")) (bytes_eq path (codes "/lines")) refl plans
 
 -- ---- a request
@@ -517,8 +538,8 @@ module _ (s : ServiceOf) (request : Request (List ℕ)) (plan : RequestPlan) whe
     module _ (set : List ℕ) (around : PageContext) (is : IsAround s set request around) where
       posted : is_post request ≡ true → (carries : Bool)
           → has_token around.token.now (sent_pairs request) ≡ carries
-          → PlansPosted around s.outbox.list (path_of request) (sent_pairs request) carries plan
-          → FoundFor
+          → PlansPosted around s.competition s.outbox.list (path_of request) (sent_pairs request)
+          carries plan → FoundFor
       posted post false not-so plans =
           refused (IsForm s request) s.mirroring.entries s.outbox.list (path_of request)
           (sent_pairs request) remark plan problem.Foreign plans
@@ -529,11 +550,11 @@ module _ (s : ServiceOf) (request : Request (List ℕ)) (plan : RequestPlan) whe
             own = own;
             method = post;
             token = subst (λ (t : List ℕ). has_token t (sent_pairs request) ≡ true) is.token so;
-          } around is.mirror is.remark (bytes_eq (path_of request) (codes "/card"))
+          } around is.mirror is.remark s.competition (bytes_eq (path_of request) (codes "/card"))
           (bytes_eq (path_of request) (codes "/command")) refl refl plans
 
       by_form : is_post request ≡ true → (imports : Bool)
-          → PlansFormAt around s.outbox.list request imports plan → FoundFor
+          → PlansFormAt around s.competition s.outbox.list request imports plan → FoundFor
       by_form post true plans =
           body (IsForm s request) s.mirroring.entries s.outbox.list (path_of request)
           (sent_pairs request) remark plan around request.body (boundary_in request) plans
@@ -541,10 +562,10 @@ module _ (s : ServiceOf) (request : Request (List ℕ)) (plan : RequestPlan) whe
           posted post (has_token around.token.now (sent_pairs request)) refl plans
 
       by_method : (read post : Bool) → is_post request ≡ post
-          → PlansBy around s.title s.outbox.list request read post plan → FoundFor
+          → PlansBy around s.title s.competition s.outbox.list request read post plan → FoundFor
       by_method true post so plans =
           view (IsForm s request) s.mirroring.entries s.outbox.list (path_of request)
-          (sent_pairs request) remark plan around s.title
+          (sent_pairs request) remark plan around s.title s.competition
           (asked_at (path_of request) (query_of request)) plans
       by_method false true so plans =
           by_form so (bytes_eq (path_of request) (codes "/import")) plans

@@ -77,8 +77,9 @@ set = range_with_len 100 32
 
 abbrev table : OutboxOf → List ℕ → ServiceOf
 table outbox lines =
-    service (codes "Open") (codes "A") (codes "a:1" ∷ []) (codes "9f") [] (new_mirroring 7 2) desks
-    outbox (set ∷ []) 3 None (journal (Some (disk lines (length lines) 0)) (length lines) false)
+    service (codes "Open") (codes "A") (codes "a:1" ∷ []) (codes "9f") [] (new_mirroring 7 2) None
+    desks outbox (set ∷ []) 3 None
+    (journal (Some (disk lines (length lines) 0)) (length lines) false)
 
 abbrev new : OutboxOf
 new = new_outbox 7 1 no_items
@@ -224,7 +225,7 @@ asks_pairs = record {
 asks : AsksForOne (sent_pairs request) [] (five ∷ [])
 asks = subst (λ (p : List Pair). AsksForOne p [] (five ∷ [])) (sym are_pairs) asks_pairs
 
-posted : PlansPosted around no_items (codes "/command") pairs true plan
+posted : PlansPosted around None no_items (codes "/command") pairs true plan
 unfolding cut digits is_clear_name number_between rows trimmed
 posted =
     inr (inr (record {
@@ -253,7 +254,7 @@ plans = record {
   };
   plans =
       subst (λ (p : List Pair).
-      PlansPosted around no_items (codes "/command") p (has_token (codes "9f") p) plan)
+      PlansPosted around None no_items (codes "/command") p (has_token (codes "9f") p) plan)
       (sym are_pairs) posted;
 }
 

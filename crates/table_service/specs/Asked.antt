@@ -7,7 +7,7 @@ use Rattle.texts.specs.{declared.command.RoundId.RoundId, Fields.number_between}
 use Rattle.table_service.specs.declared.reading.Resource.{Resource}
 use Rattle.table_service.specs.declared.reading.Resource.TheVariants.{Page, Style, Script}
 use Rattle.table_service.specs.declared.reading.TableView.TheVariants.{Overview, Card, Wall}
-use Rattle.table_service.specs.declared.reading.TableView.TheVariants.{Scorecards, People, Import}
+use Rattle.table_service.specs.declared.reading.TableView.TheVariants.{Before, Scorecards, People, Import}
 use Rattle.table_service.specs.declared.reading.TableView.TheVariants.{History, Person, Rounds}
 
 -- the round of a path below a folder
@@ -28,6 +28,7 @@ fixed path =
     if bytes_eq path (codes "/") then Some (Page Overview)
     else if bytes_eq path (codes "/people") then Some (Page People)
     else if bytes_eq path (codes "/import") then Some (Page Import)
+    else if bytes_eq path (codes "/before") then Some (Page Before)
     else if bytes_eq path (codes "/table.css") then Some Style
     else if bytes_eq path (codes "/table.js") then Some Script
     else None

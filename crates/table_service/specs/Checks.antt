@@ -15,19 +15,13 @@ use Rattle.attempts.specs.declared.Value.{Value}
 use Rattle.scorecard.specs.declared.fault.ScorecardFault.{ScorecardFault as FieldFault}
 use Rattle.card_forms.specs.declared.faults.{NumberFault.NumberFault, FieldFaults.FieldFaults}
 use Rattle.table_views.specs.Standing.{standing}
-use Rattle.table_entry_views.specs.Bounds.{best_in, floor_of, single_of}
-use Rattle.table_entry_views.specs.declared.notes.CardNote.{CardNote}
+use Rattle.table_entry_views.specs.Bounds.{best_in, floor_of, single_of, time_of}
+use Rattle.table_entry_views.specs.{Doubts.file_notes, declared.notes.CardNote.CardNote}
 use Rattle.table_service.specs.declared.checks.Bounds.{Bounds}
 use Rattle.attempts.specs.declared.Value.TheVariants as value
-use Rattle.texts.specs.declared.command.Entered.TheVariants as entered
 use Rattle.table_entry_views.specs.declared.notes.CardNote.TheVariants as note
 
 -- ---- times that are unlike the others
-
--- the time of a field, with its penalties, in hundredths of a second
-abbrev pub time_of : Option Entered → Option ℕ
-time_of (Some (entered.Time hundredths penalties)) = Some (hundredths + 200 * penalties)
-time_of _ = None
 
 abbrev pub has_time_in : Option ℕ → Bool
 has_time_in None = false
@@ -261,6 +255,15 @@ abbrev pub doubts : List Command → CardEntry → List CardNote
 doubts accepted card =
     refused_notes (refusal accepted (Card card)) ++ time_notes (bounds_of accepted card) card.now
     ++ left_notes (scramble_of accepted card.id.event card.id.round) card (left_of accepted card)
+
+-- what is to be confirmed of a card by the competition's file, where there is one
+abbrev pub file_doubts : Option (List ℕ) → List Command → CardEntry → List CardNote
+file_doubts None accepted card = []
+file_doubts (Some file) accepted card = file_notes file accepted card
+
+-- all that is to be confirmed of a card: by the commands that were accepted, and by the file
+abbrev pub all_doubts : Option (List ℕ) → List Command → CardEntry → List CardNote
+all_doubts file accepted card = doubts accepted card ++ file_doubts file accepted card
 
 -- ---- what is wrong
 

@@ -21,3 +21,4 @@ pub mod Steps
 pub mod Openings
 pub mod Runs
 pub mod WorkedTaking
+pub mod Beside

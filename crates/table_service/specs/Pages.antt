@@ -18,6 +18,7 @@ use Rattle.table_entry_views.specs.paper.{Scorecards.IsScorecards, Wall.IsWallSh
 use Rattle.table_views.specs.{declared.around.PageContext.PageContext, Logs.accepted_in}
 use Rattle.table_views.specs.Standing.{standing}
 use Rattle.scorecard.specs.Typed.{entered_typed}
+use Rattle.sending_views.specs.Page.{IsBeforePage}
 use Rattle.texts.specs.declared.command.{Entered.Entered, RoundId.RoundId}
 use Rattle.texts.specs.Fields.{cut_remark}
 use Rattle.table_service.specs.{Asked.number_if, declared.reading.TableView.TableView}
@@ -132,20 +133,27 @@ abbrev pub IsPeople : PageContext → Option (List ℕ) → Type 0
 IsPeople around None = ⊥
 IsPeople around (Some page) = IsPeoplePage around page
 
--- this is the page, under the title of the hall; none where its round was not opened, or where
--- nobody has its number
-abbrev pub IsPage : ItemsOf → PageContext → List ℕ → TableView → Option (List ℕ) → Type 0
-IsPage q around title view.Overview page = page ≡ Some (overview around)
-IsPage q around title view.People page = IsPeople around page
-IsPage q around title (view.Person number) page = page ≡ person_page around number
-IsPage q around title view.Import page = page ≡ Some (import_page around)
-IsPage q around title (view.Rounds round) page = page ≡ Some (rounds_page around round)
-IsPage q around title (view.Card round number) page =
+-- what is open before the results are sent in
+abbrev pub IsBefore : PageContext → Option (List ℕ) → Option (List ℕ) → Type 0
+IsBefore around file None = ⊥
+IsBefore around file (Some page) = IsBeforePage around file page
+
+-- this is the page, under the title of the hall, with the competition's file where there is one;
+-- none where its round was not opened, or where nobody has its number
+abbrev pub IsPage : ItemsOf → PageContext → List ℕ → Option (List ℕ) → TableView → Option (List ℕ)
+    → Type 0
+IsPage q around title file view.Overview page = page ≡ Some (overview around (is_some file))
+IsPage q around title file view.People page = IsPeople around page
+IsPage q around title file (view.Person number) page = page ≡ person_page around number
+IsPage q around title file view.Import page = page ≡ Some (import_page around)
+IsPage q around title file view.Before page = IsBefore around file page
+IsPage q around title file (view.Rounds round) page = page ≡ Some (rounds_page around round)
+IsPage q around title file (view.Card round number) page =
     IsCardAfter around.waits q around round (draft_of number) page
-IsPage q around title (view.History round number) page =
+IsPage q around title file (view.History round number) page =
     page ≡ Some (history_page around round number)
-IsPage q around title (view.Wall round) page =
+IsPage q around title file (view.Wall round) page =
     IsWallSheet title around.mirror.now round (round_by (accepted_in around.mirror.now) round) page
-IsPage q around title (view.Scorecards round) page =
-    IsScorecards title (accepted_in around.mirror.now) round
+IsPage q around title file (view.Scorecards round) page =
+    IsScorecards title (accepted_in around.mirror.now) file round
     (round_by (accepted_in around.mirror.now) round) page

@@ -21,7 +21,7 @@ use Rattle.texts.specs.declared.command.{CardEntry.CardEntry, RoundId.RoundId}
 use Rattle.table_service.specs.declared.plan.{RequestPlan.RequestPlan, PageStatus.PageStatus}
 use Rattle.table_service.specs.{declared.reading.Resource.Resource, Remarks.remark_under}
 use Rattle.table_service.specs.Asked.{asked_at, number_below, round_below}
-use Rattle.table_service.specs.{Checks.doubts, Checks.unread_notes, Pages.IsCard, Pages.IsPage}
+use Rattle.table_service.specs.{Checks.all_doubts, Checks.unread_notes, Pages.IsCard, Pages.IsPage}
 use Rattle.table_service.specs.Replying.{Sends, ShowsAs, ShowsIf, ShowsPage, refuses, shows}
 use Rattle.table_service.specs.Requests.{path_of, query_of}
 use Rattle.table_service.specs.Taking.{PlansEntries, is_sent, place_with}
@@ -37,17 +37,19 @@ use Rattle.table_service.specs.declared.reading.Resource.TheVariants as asked
 
 -- ---- a request that only reads
 
-abbrev pub ShowsView : ItemsOf → PageContext → List ℕ → Option Resource → RequestPlan → Type 0
-ShowsView q around title None plan = plan ≡ refuses problem.NotFound
-ShowsView q around title (Some asked.Style) plan = plan ≡ shows reply.Style
-ShowsView q around title (Some asked.Script) plan = plan ≡ shows reply.Script
-ShowsView q around title (Some (asked.Page view)) plan =
-    (page : Option (List ℕ)) × IsPage q around title view page × ShowsIf page plan
+abbrev pub ShowsView : ItemsOf → PageContext → List ℕ → Option (List ℕ) → Option Resource
+    → RequestPlan → Type 0
+ShowsView q around title file None plan = plan ≡ refuses problem.NotFound
+ShowsView q around title file (Some asked.Style) plan = plan ≡ shows reply.Style
+ShowsView q around title file (Some asked.Script) plan = plan ≡ shows reply.Script
+ShowsView q around title file (Some (asked.Page view)) plan =
+    (page : Option (List ℕ)) × IsPage q around title file view page × ShowsIf page plan
 
 -- what is at the path
-abbrev pub PlansRead : ItemsOf → PageContext → List ℕ → Request (List ℕ) → RequestPlan → Type 0
-PlansRead q around title request plan =
-    ShowsView q around title (asked_at (path_of request) (query_of request)) plan
+abbrev pub PlansRead : ItemsOf → PageContext → List ℕ → Option (List ℕ) → Request (List ℕ)
+    → RequestPlan → Type 0
+PlansRead q around title file request plan =
+    ShowsView q around title file (asked_at (path_of request) (query_of request)) plan
 
 -- ---- the form of a card
 
@@ -101,34 +103,36 @@ abbrev pub PlansNoted : ItemsOf → PageContext → CardForm → List ℕ → En
 PlansNoted q around form sure entry notes plan =
     PlansCardEntry q around form notes entry (is_entered q entry.id sure notes) plan
 
--- what was sent already is what it was; else what is to be confirmed of this card is asked first
-abbrev pub PlansFit : Bool → ItemsOf → PageContext → CardForm → List ℕ → Entry → CardEntry
-    → RequestPlan → Type 0
-PlansFit true q around form sure entry card plan = Sends (card_place form) effect.Nothing plan
-PlansFit false q around form sure entry card plan =
-    PlansNoted q around form sure entry (doubts (accepted_in around.mirror.now) card) plan
+-- what was sent already is what it was; else what is to be confirmed of this card, by the log and
+-- by the competition's file, is asked first
+abbrev pub PlansFit : Bool → ItemsOf → PageContext → Option (List ℕ) → CardForm → List ℕ → Entry
+    → CardEntry → RequestPlan → Type 0
+PlansFit true q around file form sure entry card plan =
+    Sends (card_place form) effect.Nothing plan
+PlansFit false q around file form sure entry card plan =
+    PlansNoted q around form sure entry (all_doubts file (accepted_in around.mirror.now) card) plan
 
 -- by the card that its entry spells
-abbrev pub PlansSpelled : ItemsOf → PageContext → CardForm → List ℕ → Entry → Option CardEntry
-    → RequestPlan → Type 0
-PlansSpelled q around form sure entry None plan = plan ≡ refuses problem.BadForm
-PlansSpelled q around form sure entry (Some card) plan =
-    PlansFit (is_sent q entry) q around form sure entry card plan
+abbrev pub PlansSpelled : ItemsOf → PageContext → Option (List ℕ) → CardForm → List ℕ → Entry
+    → Option CardEntry → RequestPlan → Type 0
+PlansSpelled q around file form sure entry None plan = plan ≡ refuses problem.BadForm
+PlansSpelled q around file form sure entry (Some card) plan =
+    PlansFit (is_sent q entry) q around file form sure entry card plan
 
 -- by the entry of the card, if its command has one
-abbrev pub PlansCardAs : ItemsOf → PageContext → CardForm → List ℕ → Option Entry → RequestPlan
-    → Type 0
-PlansCardAs q around form sure None plan =
+abbrev pub PlansCardAs : ItemsOf → PageContext → Option (List ℕ) → CardForm → List ℕ → Option Entry
+    → RequestPlan → Type 0
+PlansCardAs q around file form sure None plan =
     HoldsCard q around form (note.Card card.TooLong ∷ []) shown.Wrong plan
-PlansCardAs q around form sure (Some entry) plan =
-    PlansSpelled q around form sure entry (card_in entry.text) plan
+PlansCardAs q around file form sure (Some entry) plan =
+    PlansSpelled q around file form sure entry (card_in entry.text) plan
 
 -- the form is read as a card
-pub record PlansReadCard (q : ItemsOf) (around : PageContext) (form : CardForm) (sure : List ℕ)
-    (plan : RequestPlan) : Type 0 where
+pub record PlansReadCard (q : ItemsOf) (around : PageContext) (file : Option (List ℕ))
+    (form : CardForm) (sure : List ℕ) (plan : RequestPlan) : Type 0 where
   pub entry : CardEntry
   pub read : IsReadAs form entry
-  pub plans : PlansCardAs q around form sure (card_entry form.id entry around.remark.now) plan
+  pub plans : PlansCardAs q around file form sure (card_entry form.id entry around.remark.now) plan
 
 -- what is said of fields that are no card
 abbrev pub fault_notes : CardReading → List CardNote
@@ -142,11 +146,11 @@ PlansUnread q around form plan =
     (why : CardReading) × IsNotRead form why
     × HoldsCard q around form (fault_notes why) shown.Wrong plan
 
-abbrev pub PlansForm : ItemsOf → PageContext → List ℕ → Result CardForm CardFormFault → RequestPlan
-    → Type 0
-PlansForm q around sure (Err why) plan = plan ≡ refuses problem.BadForm
-PlansForm q around sure (Ok form) plan =
-    PlansReadCard q around form sure plan ⊎ PlansUnread q around form plan
+abbrev pub PlansForm : ItemsOf → PageContext → Option (List ℕ) → List ℕ
+    → Result CardForm CardFormFault → RequestPlan → Type 0
+PlansForm q around file sure (Err why) plan = plan ≡ refuses problem.BadForm
+PlansForm q around file sure (Ok form) plan =
+    PlansReadCard q around file form sure plan ⊎ PlansUnread q around form plan
 
 -- the page that says in these words why nothing is sent, with a link back to this page
 abbrev pub RefusesWith : PageContext → List ℕ → List ℕ → RequestPlan → Type 0
@@ -156,15 +160,16 @@ RefusesWith around back why plan = ShowsPage shown.Wrong (refused_page around ba
 abbrev pub earlier_words : List ℕ
 earlier_words = codes "an earlier edition of the commands holds: this table accepts no cards"
 
-abbrev pub PlansCardIf : Bool → PageContext → ItemsOf → List Pair → RequestPlan → Type 0
-PlansCardIf false around q pairs plan = RefusesWith around (codes "/") earlier_words plan
-PlansCardIf true around q pairs plan =
-    PlansForm q around (value_of (codes "sure") pairs) (card_form_of pairs) plan
+abbrev pub PlansCardIf : Bool → PageContext → Option (List ℕ) → ItemsOf → List Pair → RequestPlan
+    → Type 0
+PlansCardIf false around file q pairs plan = RefusesWith around (codes "/") earlier_words plan
+PlansCardIf true around file q pairs plan =
+    PlansForm q around file (value_of (codes "sure") pairs) (card_form_of pairs) plan
 
 -- in a hall of an earlier edition no card is taken
-abbrev pub PlansCard : PageContext → ItemsOf → List Pair → RequestPlan → Type 0
-PlansCard around q pairs plan =
-    PlansCardIf (is_latest (accepted_in around.mirror.now)) around q pairs plan
+abbrev pub PlansCard : PageContext → Option (List ℕ) → ItemsOf → List Pair → RequestPlan → Type 0
+PlansCard around file q pairs plan =
+    PlansCardIf (is_latest (accepted_in around.mirror.now)) around file q pairs plan
 
 -- ---- the form of a command
 

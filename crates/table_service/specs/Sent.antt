@@ -1,5 +1,5 @@
 -- What is to be done for any request of one of the program's own pages.
-use Rattle.std.specs.Prelude.{◌≡◌, ℕ, Bool, true, false, bytes_eq, codes, List}
+use Rattle.std.specs.Prelude.{◌≡◌, ℕ, Bool, true, false, bytes_eq, codes, List, Option}
 use Rattle.http.specs.declared.request.Request.{Request}
 use Rattle.card_forms.specs.{declared.pairs.Pair.Pair, Pairs.value_of}
 use Rattle.outbox.specs.Items.{ItemsOf}
@@ -44,45 +44,53 @@ PlansSentLines around q path pairs plan =
     PlansAtLines around q path pairs (bytes_eq path (codes "/commands"))
     (bytes_eq path (codes "/lines")) plan
 
--- by whether the path is that of a card's form, and that of a command's
-abbrev pub PlansAt : PageContext → ItemsOf → List ℕ → List Pair → Bool → Bool → RequestPlan → Type 0
-PlansAt around q path pairs true command plan = PlansCard around q pairs plan
-PlansAt around q path pairs false true plan = PlansCommand around q pairs plan
-PlansAt around q path pairs false false plan = PlansSentLines around q path pairs plan
+-- by whether the path is that of a card's form, and that of a command's: of forms the competition's
+-- file is of cards alone
+abbrev pub PlansAt : PageContext → Option (List ℕ) → ItemsOf → List ℕ → List Pair → Bool → Bool
+    → RequestPlan → Type 0
+PlansAt around file q path pairs true command plan = PlansCard around file q pairs plan
+PlansAt around file q path pairs false true plan = PlansCommand around q pairs plan
+PlansAt around file q path pairs false false plan = PlansSentLines around q path pairs plan
 
 -- the pairs that are sent to a path
-abbrev pub PlansSent : PageContext → ItemsOf → List ℕ → List Pair → RequestPlan → Type 0
-PlansSent around q path pairs plan =
-    PlansAt around q path pairs (bytes_eq path (codes "/card"))
+abbrev pub PlansSent : PageContext → Option (List ℕ) → ItemsOf → List ℕ → List Pair → RequestPlan
+    → Type 0
+PlansSent around file q path pairs plan =
+    PlansAt around file q path pairs (bytes_eq path (codes "/card"))
     (bytes_eq path (codes "/command")) plan
 
-abbrev pub PlansPosted : PageContext → ItemsOf → List ℕ → List Pair → Bool → RequestPlan → Type 0
-PlansPosted around q path pairs false plan = plan ≡ refuses problem.Foreign
-PlansPosted around q path pairs true plan = PlansSent around q path pairs plan
+abbrev pub PlansPosted : PageContext → Option (List ℕ) → ItemsOf → List ℕ → List Pair → Bool
+    → RequestPlan → Type 0
+PlansPosted around file q path pairs false plan = plan ≡ refuses problem.Foreign
+PlansPosted around file q path pairs true plan = PlansSent around file q path pairs plan
 
 -- a form of pairs that is sent, if it carries the token
-abbrev pub PlansPairs : PageContext → ItemsOf → Request (List ℕ) → RequestPlan → Type 0
-PlansPairs around q request plan =
-    PlansPosted around q (path_of request) (sent_pairs request)
+abbrev pub PlansPairs : PageContext → Option (List ℕ) → ItemsOf → Request (List ℕ) → RequestPlan
+    → Type 0
+PlansPairs around file q request plan =
+    PlansPosted around file q (path_of request) (sent_pairs request)
     (has_token around.token.now (sent_pairs request)) plan
 
 -- by whether the path is that of a competition's file
-abbrev pub PlansFormAt : PageContext → ItemsOf → Request (List ℕ) → Bool → RequestPlan → Type 0
-PlansFormAt around q request true plan = PlansImport around request plan
-PlansFormAt around q request false plan = PlansPairs around q request plan
+abbrev pub PlansFormAt : PageContext → Option (List ℕ) → ItemsOf → Request (List ℕ) → Bool
+    → RequestPlan → Type 0
+PlansFormAt around file q request true plan = PlansImport around request plan
+PlansFormAt around file q request false plan = PlansPairs around file q request plan
 
 -- a form that is sent
-abbrev pub PlansPost : PageContext → ItemsOf → Request (List ℕ) → RequestPlan → Type 0
-PlansPost around q request plan =
-    PlansFormAt around q request (bytes_eq (path_of request) (codes "/import")) plan
+abbrev pub PlansPost : PageContext → Option (List ℕ) → ItemsOf → Request (List ℕ) → RequestPlan
+    → Type 0
+PlansPost around file q request plan =
+    PlansFormAt around file q request (bytes_eq (path_of request) (codes "/import")) plan
 
 -- by whether the method only reads, and whether it sends a form
-abbrev pub PlansBy : PageContext → List ℕ → ItemsOf → Request (List ℕ) → Bool → Bool → RequestPlan
-    → Type 0
-PlansBy around title q request true post plan = PlansRead q around title request plan
-PlansBy around title q request false true plan = PlansPost around q request plan
-PlansBy around title q request false false plan = plan ≡ refuses problem.Method
+abbrev pub PlansBy : PageContext → List ℕ → Option (List ℕ) → ItemsOf → Request (List ℕ) → Bool
+    → Bool → RequestPlan → Type 0
+PlansBy around title file q request true post plan = PlansRead q around title file request plan
+PlansBy around title file q request false true plan = PlansPost around file q request plan
+PlansBy around title file q request false false plan = plan ≡ refuses problem.Method
 
-abbrev pub PlansOwn : PageContext → List ℕ → ItemsOf → Request (List ℕ) → RequestPlan → Type 0
-PlansOwn around title q request plan =
-    PlansBy around title q request (is_read request) (is_post request) plan
+abbrev pub PlansOwn : PageContext → List ℕ → Option (List ℕ) → ItemsOf → Request (List ℕ)
+    → RequestPlan → Type 0
+PlansOwn around title file q request plan =
+    PlansBy around title file q request (is_read request) (is_post request) plan

@@ -20,9 +20,9 @@ use Rattle.table_service.specs.declared.plan.Effect.TheVariants as effect
 use Rattle.table_service.specs.declared.plan.Problem.TheVariants as problem
 
 -- the title of the hall, the name of the table, the hosts and the token of the program, the
--- commands whose comments propose how later rounds are held, the mirror with what keeps it up, what
--- is known of the desks, what was entered, the ids for the forms of pages, a set for each page, the
--- time, the machine's clock, and the journal
+-- commands whose comments propose how later rounds are held, the mirror with what keeps it up, the
+-- competition's file, where there is one, what is known of the desks, what was entered, the ids for
+-- the forms of pages, a set for each page, the time, the machine's clock, and the journal
 pub record ServiceOf : Type 0 where
   pub title : List ℕ
   pub name : List ℕ
@@ -30,6 +30,7 @@ pub record ServiceOf : Type 0 where
   pub token : List ℕ
   pub proposals : List ℕ
   pub mirroring : MirroringOf
+  pub competition : Option (List ℕ)
   pub desks : HallStatus
   pub outbox : OutboxOf
   pub ids : List (List ℕ)
@@ -37,22 +38,24 @@ pub record ServiceOf : Type 0 where
   pub clock : Option ℕ
   pub file : JournalOf
 
-abbrev pub service : List ℕ → List ℕ → List (List ℕ) → List ℕ → List ℕ → MirroringOf → HallStatus
-    → OutboxOf → List (List ℕ) → ℕ → Option ℕ → JournalOf → ServiceOf
-service title name hosts token proposals mirroring desks outbox ids time clock file = record {
-  title = title;
-  name = name;
-  hosts = hosts;
-  token = token;
-  proposals = proposals;
-  mirroring = mirroring;
-  desks = desks;
-  outbox = outbox;
-  ids = ids;
-  time = time;
-  clock = clock;
-  file = file;
-}
+abbrev pub service : List ℕ → List ℕ → List (List ℕ) → List ℕ → List ℕ → MirroringOf
+    → Option (List ℕ) → HallStatus → OutboxOf → List (List ℕ) → ℕ → Option ℕ → JournalOf → ServiceOf
+service title name hosts token proposals mirroring competition desks outbox ids time clock file =
+    record {
+      title = title;
+      name = name;
+      hosts = hosts;
+      token = token;
+      proposals = proposals;
+      mirroring = mirroring;
+      competition = competition;
+      desks = desks;
+      outbox = outbox;
+      ids = ids;
+      time = time;
+      clock = clock;
+      file = file;
+    }
 
 -- between two calls all that was taken is in the journal, and no line is on the way there
 abbrev pub IsKept : OutboxOf → Type 0
@@ -83,7 +86,7 @@ pub record PlansAround (s : ServiceOf) (set : List ℕ) (request : Request (List
     (plan : RequestPlan) : Type 0 where
   pub around : PageContext
   pub is : IsAround s set request around
-  pub plans : PlansOwn around s.title s.outbox.list request plan
+  pub plans : PlansOwn around s.title s.competition s.outbox.list request plan
 
 -- a page needs ids for its forms
 abbrev pub PlansWith : ServiceOf → Request (List ℕ) → Option (List ℕ) → RequestPlan → Type 0
@@ -229,9 +232,10 @@ pub record Answers (old : ServiceOf) (request : Request (List ℕ)) (response : 
 
 -- no ids are given, and no time is known; what is in no journal is no item
 pub record IsNew (title name : List ℕ) (hosts : List (List ℕ)) (token proposals : List ℕ)
-    (mirroring : MirroringOf) (outbox : OutboxOf) (file : JournalOf) (s : ServiceOf) : Type 0 where
+    (mirroring : MirroringOf) (competition : Option (List ℕ)) (outbox : OutboxOf) (file : JournalOf)
+    (s : ServiceOf) : Type 0 where
   pub desks : HallStatus
-  pub is : s ≡ service title name hosts token proposals mirroring desks
+  pub is : s ≡ service title name hosts token proposals mirroring competition desks
       (with_list outbox (taken_back outbox.list)) [] 0 None file
 
 -- nothing but the mirror

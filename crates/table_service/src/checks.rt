@@ -1,14 +1,15 @@
 //! What is said of a card before it is taken.
 
 ghost use Rattle.std.specs.Prelude.{◌≡◌, ◌++◌, ◌∷◌, [], ◌<◌, ◌≤◌, ◌^◌, IfOk, IfSome, OnOk, All};
-ghost use Rattle.std.specs.{Prelude.length, List.list_all, List.list_any};
+ghost use Rattle.std.specs.{Prelude.length, List.list_all, List.list_any, Option.option_copied};
 ghost use Rattle.texts.specs.Spelling.{IsEntered};
 ghost use Rattle.commands.specs.Accepted.{is_solution, scramble_of};
-ghost use Rattle.table_service.specs.Checks.{best_elsewhere, is_unlike_those, unsolved_notes};
+ghost use Rattle.table_service.specs.Checks.{all_doubts, best_elsewhere, file_doubts};
+ghost use Rattle.table_service.specs.Checks.{is_unlike_those, unsolved_notes};
 ghost use Rattle.table_service.specs.Checks.{best_here, change_notes, refused_notes, single_beside};
 ghost use Rattle.table_service.specs.Checks.{bounds_of, change_at, fast_at, left_notes, time_notes};
 ghost use Rattle.table_service.specs.Checks.{doubts, half_at, is_again, is_fast, is_half, is_short};
-ghost use Rattle.table_service.specs.Checks.{enters, is_left, is_long, left_of, time_at, time_of};
+ghost use Rattle.table_service.specs.Checks.{enters, is_left, is_long, left_of, time_at};
 ghost use Rattle.table_service.specs.Checks.{field_note, is_entered, is_half_of, unsolved_at};
 ghost use Rattle.table_service.specs.Checks.{field_notes, number_notes, repeat_notes, unread_notes};
 ghost use Rattle.table_service.specs.Checks.{has_time, is_failed, is_repeat, is_unlike, unlike_at};
@@ -17,9 +18,10 @@ use crate::refusing::{refusal_of, value_at, values_left};
 use attempts::Value;
 use card_forms::{FieldFaults, NumberFault};
 use commands::Meet;
+use competition_file::CompetitionFile;
 use round_counts::round_opened;
 use std::alloc::{AllocError, Global};
-use table_entry_views::{CardNote, best_in, floor_of, single_of};
+use table_entry_views::{CardNote, best_in, floor_of, note_by_file, single_of, time_of};
 use table_views::standing;
 use texts::{CardEntry, Code, Entered, RoundId};
 
@@ -32,22 +34,6 @@ fn put(notes: &mut Vec<CardNote>, note: CardNote) -> Result<(), AllocError>
 {
     notes.push(note)?;
     Ok(())
-}
-
-/// The time of a field, with its penalties, in hundredths of a second.
-fn time_of(field: &Option<Entered>) -> Option<u64>
-    ensures time { result ≡ time_of field.now }
-    ensures small { IfSome result (λ time. time < 2 ^ 33) }
-{
-    match field {
-        Some(
-            Entered::Time {
-                hundredths,
-                penalties,
-            },
-        ) => Some(u64::from(*hundredths) + 200 * u64::from(*penalties)),
-        _ => None,
-    }
 }
 
 /// Whether a field has a time.
@@ -491,11 +477,7 @@ fn left_of(alloc: Global, meet: &Meet, card: &CardEntry) -> Result<Vec<Value>, A
 /// than half of the best single of the round or of the competitor's in another, or that is unlike
 /// the others; each solution that does not solve its scramble; the first two results again; and
 /// each attempt that counts and would change.
-pub(crate) fn doubts_of(
-    alloc: Global,
-    card: &CardEntry,
-    meet: &Meet,
-) -> Result<Vec<CardNote>, AllocError>
+fn doubts_of(alloc: Global, card: &CardEntry, meet: &Meet) -> Result<Vec<CardNote>, AllocError>
     requires few { length card.now.now < 256 }
     requires entered { All (λ o. IfSome o IsEntered) card.now.now }
     ensures { IfOk result (λ notes. notes.items ≡ doubts meet.now.accepted card.entry.now) }
@@ -505,6 +487,41 @@ pub(crate) fn doubts_of(
     note_times(&mut notes, bounds_of(meet, card)?, card.now.as_slice())?;
     let left = left_of(alloc, meet, card)?;
     note_left(&mut notes, meet, card, &left)?;
+    Ok(notes)
+}
+
+/// Notes what is to be confirmed of a card by the competition's file, where there is one.
+fn note_file(
+    notes: &mut Vec<CardNote>,
+    competition: Option<&CompetitionFile>,
+    meet: &Meet,
+    card: &CardEntry,
+) -> Result<(), AllocError>
+    requires { length card.now.now < 256 }
+    ensures { OnOk result (notes.new.items ≡ notes.old.items
+        ++ file_doubts (option_copied competition.entry) meet.now.accepted card.entry.now) }
+{
+    match competition {
+        Some(file) => note_by_file(notes, file, meet, card),
+        None => Ok(()),
+    }
+}
+
+/// All that is to be confirmed of a card: what `doubts_of` says, and what the competition's file
+/// says, where there is one.
+pub(crate) fn all_doubts_of(
+    alloc: Global,
+    card: &CardEntry,
+    meet: &Meet,
+    competition: Option<&CompetitionFile>,
+) -> Result<Vec<CardNote>, AllocError>
+    requires few { length card.now.now < 256 }
+    requires entered { All (λ o. IfSome o IsEntered) card.now.now }
+    ensures { IfOk result (λ notes. notes.items
+        ≡ all_doubts (option_copied competition.entry) meet.now.accepted card.entry.now) }
+{
+    let mut notes = doubts_of(alloc, card, meet)?;
+    note_file(&mut notes, competition, meet, card)?;
     Ok(notes)
 }
 

@@ -1,6 +1,7 @@
 //! A card that is sent.
 
 ghost use Rattle.std.specs.Prelude.{◌≡◌, IfOk, Ok, Some};
+ghost use Rattle.std.specs.Option.{option_copied};
 ghost use Rattle.card_forms.specs.Readings.{IsReadAs};
 ghost use Rattle.table_service.specs.Plans.{HoldsCard, PlansCard, PlansCardAs, PlansCardEntry};
 ghost use Rattle.table_service.specs.Plans.{PlansForm, PlansNoted, PlansReadCard, PlansSpelled};
@@ -8,7 +9,7 @@ ghost use Rattle.table_service.specs.Plans.{are_confirmed, card_place, cards_pla
 ghost use Rattle.table_service.specs.{Plans.is_confirmed, Plans.is_entered, Taking.IsFitCard};
 
 use crate::cards::card;
-use crate::checks::{doubts_of, only, unread};
+use crate::checks::{all_doubts_of, only, unread};
 use crate::commanding::refuse;
 use crate::entries::{fit_card, is_sent, place_with, plan_entries};
 use crate::plan::{Effect, PageStatus, Problem, RequestPlan};
@@ -16,6 +17,7 @@ use acceptor::entry::Entry;
 use card_forms::{
     CardFault, CardForm, CardFormFault, CardReading, Pairs, card_entry, card_form, card_of,
 };
+use competition_file::CompetitionFile;
 use itoa::Buffer;
 use outbox::Outbox;
 use std::alloc::{AllocError, Global};
@@ -146,25 +148,27 @@ fn plan_noted(
 }
 
 /// What is to be done for an entry that spells this card. A card that was sent already, with
-/// whatever remark, is what it was; of another one what is to be confirmed is asked first.
+/// whatever remark, is what it was; of another one what is to be confirmed, by the log and by the
+/// competition's file, is asked first.
 fn plan_fit(
     alloc: Global,
     outbox: &Outbox,
     around: &PageContext<'_>,
+    competition: Option<&CompetitionFile>,
     form: &CardForm,
     sure: &[u8],
     entry: Entry,
     card: &CardEntry,
 ) -> Result<RequestPlan, AllocError>
     requires { IsFitCard card.now }
-    ensures { IfOk result (PlansSpelled outbox.now.list around.entry.now form.now sure.now entry
-        (Some card.entry.now)) }
+    ensures { IfOk result (PlansSpelled outbox.now.list around.entry.now
+        (option_copied competition.entry) form.now sure.now entry (Some card.entry.now)) }
 {
     if is_sent(outbox, &entry) {
         let place = place_of(alloc, form)?;
         return Ok(RequestPlan::see(place, Effect::Nothing));
     }
-    let notes = doubts_of(alloc, card, around.mirror.meet())?;
+    let notes = all_doubts_of(alloc, card, around.mirror.meet(), competition)?;
     plan_noted(alloc, outbox, around, form, sure, entry, &notes)
 }
 
@@ -173,15 +177,16 @@ fn plan_spelled(
     alloc: Global,
     outbox: &Outbox,
     around: &PageContext<'_>,
+    competition: Option<&CompetitionFile>,
     form: &CardForm,
     sure: &[u8],
     entry: Entry,
 ) -> Result<RequestPlan, AllocError>
-    ensures { IfOk result
-        (PlansCardAs outbox.now.list around.entry.now form.now sure.now (Some entry)) }
+    ensures { IfOk result (PlansCardAs outbox.now.list around.entry.now
+        (option_copied competition.entry) form.now sure.now (Some entry)) }
 {
     match fit_card(alloc, entry.text())? {
-        Some(card) => plan_fit(alloc, outbox, around, form, sure, entry, &card),
+        Some(card) => plan_fit(alloc, outbox, around, competition, form, sure, entry, &card),
         None => Ok(RequestPlan::problem(Problem::BadForm)),
     }
 }
@@ -191,16 +196,17 @@ fn plan_read(
     alloc: Global,
     outbox: &Outbox,
     around: &PageContext<'_>,
+    competition: Option<&CompetitionFile>,
     form: &CardForm,
     sure: &[u8],
     read: CardEntry,
 ) -> Result<RequestPlan, AllocError>
     requires { IsReadAs form.now read }
-    ensures { IfOk result
-        (PlansReadCard outbox.now.list around.entry.now form.now sure.now) }
+    ensures { IfOk result (PlansReadCard outbox.now.list around.entry.now
+        (option_copied competition.entry) form.now sure.now) }
 {
     match card_entry(alloc, form.id, read, around.remark)? {
-        Some(entry) => plan_spelled(alloc, outbox, around, form, sure, entry),
+        Some(entry) => plan_spelled(alloc, outbox, around, competition, form, sure, entry),
         None => {
             let notes = only(alloc, CardNote::Card(CardFault::TooLong))?;
             hold(alloc, outbox, around, form, &notes, PageStatus::Wrong)
@@ -213,13 +219,15 @@ fn plan_form(
     alloc: Global,
     outbox: &Outbox,
     around: &PageContext<'_>,
+    competition: Option<&CompetitionFile>,
     form: &CardForm,
     sure: &[u8],
 ) -> Result<RequestPlan, AllocError>
-    ensures { IfOk result (PlansForm outbox.now.list around.entry.now sure.now (Ok form.now)) }
+    ensures { IfOk result (PlansForm outbox.now.list around.entry.now
+        (option_copied competition.entry) sure.now (Ok form.now)) }
 {
     match card_of(alloc, form) {
-        Ok(read) => plan_read(alloc, outbox, around, form, sure, read),
+        Ok(read) => plan_read(alloc, outbox, around, competition, form, sure, read),
         Err(CardReading::NoMemory) => Err(AllocError),
         Err(CardReading::Unread(faults)) => {
             let notes = unread(alloc, &faults)?;
@@ -237,15 +245,24 @@ pub(crate) fn plan_card(
     alloc: Global,
     outbox: &Outbox,
     around: &PageContext<'_>,
+    competition: Option<&CompetitionFile>,
     pairs: &Pairs,
 ) -> Result<RequestPlan, AllocError>
-    ensures { IfOk result (PlansCard around.entry.now outbox.now.list pairs.now) }
+    ensures { IfOk result (PlansCard around.entry.now (option_copied competition.entry)
+        outbox.now.list pairs.now) }
 {
     if !is_latest(around.mirror.meet()) {
         return refuse(alloc, around, b"/", EARLIER);
     }
     match card_form(alloc, pairs) {
-        Ok(form) => plan_form(alloc, outbox, around, &form, pairs.value("sure")),
+        Ok(form) => plan_form(
+            alloc,
+            outbox,
+            around,
+            competition,
+            &form,
+            pairs.value("sure"),
+        ),
         Err(CardFormFault::NoMemory) => Err(AllocError),
         Err(CardFormFault::BadId | CardFormFault::BadRound | CardFormFault::BadWas) => {
             Ok(RequestPlan::problem(Problem::BadForm))

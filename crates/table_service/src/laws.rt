@@ -1,5 +1,6 @@
 //! What holds of each answer and of the journal, whatever is asked.
 
+ghost use Rattle.table_service.specs.Beside.{FileIsBeside, FileOnlyAsks, ReadsOnlyShow};
 ghost use Rattle.table_service.specs.Laws.{RefusesForeign, SavedIsTheCard, SecuresAll};
 ghost use Rattle.table_service.specs.{Laws.TakesForForms, WorkedTaking.WorksTaking};
 ghost use Rattle.table_service.specs.Runs.{RunsAreOfTheOutbox, TakenStays};
@@ -57,4 +58,25 @@ pub fn saved_is_the_card()
 /// a request that names another host. So the laws on what is taken say something.
 pub fn a_form_is_taken()
     ensures { WorksTaking }
+{}
+
+/// A law: what comes of a form, unless it is that of a card, and what is answered to it, is the
+/// same whatever the competition's file is.
+#[tactic(auto, using(crate::proofs::Beside::beside))]
+pub fn file_is_beside()
+    ensures { FileIsBeside }
+{}
+
+/// A law: the competition's file can only ask. What comes of a form, and what is answered to it, is
+/// the same without the file, or nothing is taken and the card is shown with what is to be
+/// confirmed first.
+#[tactic(auto, using(crate::proofs::Beside::only_asks))]
+pub fn file_only_asks()
+    ensures { FileOnlyAsks }
+{}
+
+/// A law: of a request that only reads, and so of each page that the file is for, nothing comes but
+/// that the ids of a page are used.
+pub fn reads_only_show()
+    ensures { ReadsOnlyShow }
 {}

@@ -35,8 +35,9 @@ pub use desks_side::PROGRAM;
 pub use disk::{Disk, SystemFile};
 pub use journal_file::{JournalFile, JournalFileFault, OpenedJournal, open_journal};
 pub use laws::{
-    a_form_is_taken, answers_are_secured, foreign_requests_are_refused, forms_alone_are_taken,
-    runs_are_of_the_outbox, saved_is_the_card, what_is_taken_stays,
+    a_form_is_taken, answers_are_secured, file_is_beside, file_only_asks,
+    foreign_requests_are_refused, forms_alone_are_taken, reads_only_show, runs_are_of_the_outbox,
+    saved_is_the_card, what_is_taken_stays,
 };
 pub use remarks::is_table_name;
 pub use service::TableService;

@@ -1,6 +1,7 @@
 //! What is to be done for a request of one of the program's own pages.
 
 ghost use Rattle.std.specs.Prelude.{◌≡◌, IfOk, codes};
+ghost use Rattle.std.specs.Option.{option_copied};
 ghost use Rattle.card_forms.specs.Pairs.{value_of};
 ghost use Rattle.table_service.specs.{Lists.LooksAt, Plans.page_after};
 ghost use Rattle.table_service.specs.Sent.{PlansOwn, PlansPost, PlansSent};
@@ -16,6 +17,7 @@ use crate::showing::plan_read;
 use crate::undoing::plan_undo;
 use bytes::Bytes;
 use card_forms::Pairs;
+use competition_file::CompetitionFile;
 use http::Request;
 use outbox::Outbox;
 use std::alloc::{AllocError, Global};
@@ -52,14 +54,16 @@ fn look_back(
 fn plan_sent(
     alloc: Global,
     outbox: &Outbox,
+    competition: Option<&CompetitionFile>,
     around: &PageContext<'_>,
     path: &str,
     pairs: &Pairs,
 ) -> Result<RequestPlan, AllocError>
-    ensures { IfOk result (PlansSent around.entry.now outbox.now.list path.now pairs.now) }
+    ensures { IfOk result (PlansSent around.entry.now (option_copied competition.entry)
+        outbox.now.list path.now pairs.now) }
 {
     if path == "/card" {
-        plan_card(alloc, outbox, around, pairs)
+        plan_card(alloc, outbox, around, competition, pairs)
     } else if path == "/command" {
         plan_command(alloc, outbox, around, pairs)
     } else if path == "/commands" {
@@ -81,10 +85,12 @@ fn plan_sent(
 fn plan_post(
     alloc: Global,
     outbox: &Outbox,
+    competition: Option<&CompetitionFile>,
     around: &PageContext<'_>,
     request: &Request<Bytes>,
 ) -> Result<RequestPlan, AllocError>
-    ensures { IfOk result (PlansPost around.entry.now outbox.now.list request.now) }
+    ensures { IfOk result (PlansPost around.entry.now (option_copied competition.entry)
+        outbox.now.list request.now) }
 {
     let path = request.uri().path();
     if path == "/import" {
@@ -92,7 +98,7 @@ fn plan_post(
     }
     let pairs = Pairs::read(alloc, request.body())?;
     if pairs.value("token") == around.token {
-        plan_sent(alloc, outbox, around, path, &pairs)
+        plan_sent(alloc, outbox, competition, around, path, &pairs)
     } else {
         Ok(RequestPlan::problem(Problem::Foreign))
     }
@@ -103,15 +109,17 @@ pub(crate) fn plan_own(
     alloc: Global,
     outbox: &Outbox,
     title: &[u8],
+    competition: Option<&CompetitionFile>,
     around: &PageContext<'_>,
     request: &Request<Bytes>,
 ) -> Result<RequestPlan, AllocError>
-    ensures { IfOk result (PlansOwn around.entry.now title.now outbox.now.list request.now) }
+    ensures { IfOk result (PlansOwn around.entry.now title.now
+        (option_copied competition.entry) outbox.now.list request.now) }
 {
     if is_read(request) {
-        plan_read(alloc, outbox, title, around, request)
+        plan_read(alloc, outbox, title, competition, around, request)
     } else if is_post(request) {
-        plan_post(alloc, outbox, around, request)
+        plan_post(alloc, outbox, competition, around, request)
     } else {
         Ok(RequestPlan::problem(Problem::Method))
     }

@@ -30,6 +30,8 @@ pub(crate) enum TableView {
     Person(u16),
     /// `/import`: a competition's file, or lines of commands.
     Import,
+    /// `/before`: what is open before the results are sent in.
+    Before,
     /// `/rounds`, of one round where `?round=333-1` names one.
     Rounds(Option<RoundId>),
 }
@@ -74,6 +76,8 @@ fn fixed(path: &[u8]) -> Option<Resource>
         Some(Resource::Page(TableView::People))
     } else if path == b"/import".as_slice() {
         Some(Resource::Page(TableView::Import))
+    } else if path == b"/before".as_slice() {
+        Some(Resource::Page(TableView::Before))
     } else if path == b"/table.css".as_slice() {
         Some(Resource::Style)
     } else if path == b"/table.js".as_slice() {

@@ -21,6 +21,7 @@ use acceptor::NoMemory;
 use acceptor::entry::Entry;
 use bytes::Bytes;
 use card_forms::FormId;
+use competition_file::RenewFault;
 use desk_sockets::{DeskStream, DialogueChange};
 use http::Request;
 use http_server::{Response, Service};
@@ -62,7 +63,8 @@ impl<D: Disk> Model for TableService<D> {
 
     ghost view = { λ s. service (string_bytes s.setup.title) (string_bytes s.setup.name)
         (map string_bytes s.setup.hosts.items) (string_bytes s.setup.token)
-        s.setup.proposals.items s.mirroring s.desks s.outbox s.ids.items s.time s.clock s.file };
+        s.setup.proposals.items s.mirroring s.setup.competition s.desks s.outbox s.ids.items s.time
+        s.clock s.file };
 
     ghost invariant = { λ s. IsKept s.outbox };
 }
@@ -147,10 +149,11 @@ fn list_of(alloc: Global, entry: Entry) -> Result<Vec<Entry>, NoMemory>
 
 impl<D: Disk> TableService<D> {
     ghost use Rattle.std.specs.Prelude.{ℕ, ◌++◌, ◌-◌, ◌∷◌, [], length, map, string_bytes, IfOk};
-    ghost use Rattle.std.specs.Prelude.{OnErr, OnOk, take};
+    ghost use Rattle.std.specs.Prelude.{IfErr, OnErr, OnOk, take};
     ghost use Rattle.table_service.specs.Services.{AnswersIt, IsKeptBut, IsNew, IsSentBut};
     ghost use Rattle.table_service.specs.Services.{Plans, PlansAround, TakesAgainFor, TakesFor};
     ghost use Rattle.table_service.specs.Services.{with_ids_used};
+    ghost use Rattle.renewed_file.specs.Renewing.{RenewFailsFor, Renews};
     ghost use Rattle.desk_sockets.specs.Asking.{AsksNow};
     ghost use Rattle.desk_talks.specs.Dialogues.{Reaches};
     ghost use Rattle.kept_mirror.specs.Mirrorings.{DialogueLeads as MirrorLeads, awaiting, hurried};
@@ -168,7 +171,7 @@ impl<D: Disk> TableService<D> {
     ) -> TableService<D>
         ensures { IsNew (string_bytes setup.title) (string_bytes setup.name)
             (map string_bytes setup.hosts.items) (string_bytes setup.token) setup.proposals.items
-            mirroring outbox file result }
+            mirroring setup.competition outbox file result }
     {
         let mut outbox = outbox;
         outbox.not_kept();
@@ -227,6 +230,22 @@ impl<D: Disk> TableService<D> {
         ensures { self.new ≡ record self.old { clock = clock } }
     {
         self.clock = clock;
+    }
+
+    /// Takes a newer file of the same competition in place of the one beside the list; nothing
+    /// where there is none. At a fault the one before stays.
+    pub fn renew(&mut self, bytes: Vec<u8>) -> Result<(), RenewFault>
+        ensures others { OnOk result
+            (self.new ≡ record self.old { competition = self.new.competition }) }
+        ensures ok { OnOk result
+            (Renews self.old.competition bytes.items self.new.competition) }
+        ensures why { IfErr result (RenewFailsFor self.old.competition bytes.items) }
+        ensures err { OnErr result (self.new ≡ self.old) }
+    {
+        match &mut self.setup.competition {
+            Some(file) => file.renew(self.alloc, bytes),
+            None => Ok(()),
+        }
     }
 
     /// Says how the desks are doing.
@@ -346,7 +365,14 @@ impl<D: Disk> TableService<D> {
             waits: waits(&self.outbox, self.mirroring.mirror(), self.time, sent),
         };
         let title = self.setup.title.as_bytes();
-        plan_own(self.alloc, &self.outbox, title, &around, request)
+        plan_own(
+            self.alloc,
+            &self.outbox,
+            title,
+            self.setup.competition.as_ref(),
+            &around,
+            request,
+        )
     }
 
     /// What is to be done for a request. Nothing changes yet.

@@ -7,11 +7,14 @@ use crate::drawing::drawn_ids;
 use crate::journal_file::OpenedJournal;
 use crate::service::TableService;
 use crate::setup::Setup;
+use competition_file::CompetitionFile;
 use hall_survey::{Hall, count_desks};
 use kept_mirror::Mirroring;
 use outbox::HallName;
 use pages::{TcpBrowsers, say_where};
+use renewed_file::RenewedFile;
 use std::alloc::{AllocError, Global};
+use std::fs::Files;
 use std::io;
 use std::io::Write;
 use std::net::{Net, SocketAddr};
@@ -35,13 +38,35 @@ fn clock_of<R: Clock>(runtime: &R) -> Option<u64> {
     }
 }
 
+/// Takes a newer competition's file in place of the one before, where its path has one.
+fn renew<D: Disk, R: Files, F: Write>(
+    runtime: &R,
+    alloc: Global,
+    service: &mut TableService<D>,
+    renewed: &mut Option<RenewedFile<'_>>,
+    now: u64,
+    faults: &mut F,
+) {
+    let Some(file) = renewed else {
+        return;
+    };
+    let Some(bytes) = file.newer(runtime, alloc, now, PROGRAM, faults) else {
+        return;
+    };
+    if let Err(fault) = service.renew(bytes) {
+        file.tell_fault(PROGRAM, &fault, faults);
+    }
+}
+
 /// Says where it listens, and serves until it can't continue. Pages are given ids for their forms
 /// as they use them up.
-fn serve_on<D: Disk, R: Net + RandomSource + Clock + Drop, W: Write, F: Write>(
+fn serve_on<D: Disk, R: Net + RandomSource + Clock + Files + Drop, W: Write, F: Write>(
     runtime: &R,
+    alloc: Global,
     browsers: &mut TcpBrowsers<'_, R>,
     service: &mut TableService<D>,
     side: &mut DesksSide<'_, R>,
+    renewed: &mut Option<RenewedFile<'_>>,
     writer: &mut W,
     faults: &mut F,
 ) -> io::Result<ScoreTableEnd> {
@@ -59,6 +84,7 @@ fn serve_on<D: Disk, R: Net + RandomSource + Clock + Drop, W: Write, F: Write>(
         };
         now = after;
         service.set_time(now);
+        renew(runtime, alloc, service, renewed, now, faults);
         if !side.keep(service, now, faults)? {
             return Ok(ScoreTableEnd::Broken);
         }
@@ -97,9 +123,10 @@ fn service_of<'a, R: RandomSource>(
     title: String,
     name: String,
     proposals: Vec<u8>,
+    competition: Option<CompetitionFile>,
     opened: OpenedJournal<SystemFile>,
 ) -> io::Result<&'a mut TableService<SystemFile>> {
-    let setup = Setup::new(runtime, alloc, address, title, name, proposals)?;
+    let setup = Setup::new(runtime, alloc, address, title, name, proposals, competition)?;
     let mirroring = Mirroring::new(alloc, hall.number, count_desks(hall.addresses))?;
     let OpenedJournal { journal, file } = opened;
     let service = TableService::new(alloc, setup, mirroring, journal.outbox, file);
@@ -120,16 +147,18 @@ fn side_of<'a, R: Net + RandomSource + Clock + Drop>(
 }
 
 /// Says where it listens, and serves the pages of a hall under this title, for the table of this
-/// name, with the proposals of these commands' comments, over this journal, to these browsers until
-/// it can't continue. What is wrong with the key of a
-/// desk is said on a line of `faults`.
-pub fn serve<'a, R: Net + RandomSource + Clock + Drop, W: Write, F: Write>(
+/// name, with the proposals of these commands' comments and with the competition's file, over this
+/// journal, to these browsers until it can't continue. What is wrong with the key of a desk, or
+/// with a newer competition's file, is said on a line of `faults`.
+pub fn serve<'a, R: Net + RandomSource + Clock + Files + Drop, W: Write, F: Write>(
     runtime: &'a R,
     alloc: Global,
     hall: Hall<'_>,
     title: String,
     name: String,
     proposals: Vec<u8>,
+    competition: Option<CompetitionFile>,
+    renewed: &mut Option<RenewedFile<'_>>,
     opened: OpenedJournal<SystemFile>,
     browsers: &mut TcpBrowsers<'a, R>,
     writer: &mut W,
@@ -137,8 +166,18 @@ pub fn serve<'a, R: Net + RandomSource + Clock + Drop, W: Write, F: Write>(
 ) -> io::Result<ScoreTableEnd> {
     let address = browsers.sockets().address()?;
     let service = service_of(
-        runtime, alloc, hall, address, title, name, proposals, opened,
+        runtime,
+        alloc,
+        hall,
+        address,
+        title,
+        name,
+        proposals,
+        competition,
+        opened,
     )?;
     let side = side_of(runtime, alloc, hall, browsers)?;
-    serve_on(runtime, browsers, service, side, writer, faults)
+    serve_on(
+        runtime, alloc, browsers, service, side, renewed, writer, faults,
+    )
 }

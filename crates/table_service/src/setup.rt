@@ -3,6 +3,7 @@
 ghost use Rattle.std.specs.Prelude.{◌≡◌, IfOk, string_bytes};
 ghost use Rattle.table_service.specs.Gate.{IsToken};
 
+use competition_file::CompetitionFile;
 use std::alloc::{AllocError, Global};
 use std::io;
 use std::net::SocketAddr;
@@ -24,6 +25,8 @@ pub struct Setup {
     /// The commands with which the competition was set up, whose comments propose how later rounds
     /// are held; nothing where they are not known.
     pub proposals: Vec<u8>,
+    /// The competition's file, where there is one.
+    pub competition: Option<CompetitionFile>,
 }
 
 /// The token of these bytes.
@@ -44,10 +47,12 @@ impl Setup {
         title: String,
         name: String,
         proposals: Vec<u8>,
+        competition: Option<CompetitionFile>,
     ) -> io::Result<Setup>
         ensures title { IfOk result (λ s. s.title ≡ title) }
         ensures name { IfOk result (λ s. s.name ≡ name) }
         ensures proposals { IfOk result (λ s. s.proposals ≡ proposals) }
+        ensures competition { IfOk result (λ s. s.competition ≡ competition) }
         ensures token { IfOk result (λ s. IsToken (string_bytes s.token)) }
     {
         let mut hosts = Vec::new(alloc);
@@ -65,6 +70,7 @@ impl Setup {
             hosts,
             token,
             proposals,
+            competition,
         })
     }
 }

@@ -1,7 +1,7 @@
 //! The pages that are made of the mirror.
 
 ghost use Rattle.std.specs.Prelude.{◌≡◌, IfOk};
-ghost use Rattle.std.specs.Option.{option_map};
+ghost use Rattle.std.specs.Option.{option_copied, option_map};
 ghost use Rattle.table_service.specs.Pages.{IsPage, draft_of};
 ghost use Rattle.table_service.specs.{Plans.PlansRead, Replying.ShowsIf, Requests.query_of};
 
@@ -9,8 +9,10 @@ use crate::plan::{PageReply, PageStatus, Problem, RequestPlan};
 use crate::reading::{Resource, TableView, asked_at};
 use crate::waiting::card_after;
 use bytes::Bytes;
+use competition_file::CompetitionFile;
 use http::Request;
 use outbox::Outbox;
+use sending_views::before_page;
 use std::alloc::{AllocError, Global};
 use table_entry_views::paper::{scorecards, wall_sheet};
 use table_entry_views::{Draft, history_page};
@@ -33,16 +35,18 @@ fn page_of(
     alloc: Global,
     outbox: &Outbox,
     title: &[u8],
+    competition: Option<&CompetitionFile>,
     around: &PageContext<'_>,
     view: TableView,
 ) -> Result<Option<Vec<u8>>, AllocError>
-    ensures { IfOk result (λ page. IsPage outbox.now.list around.entry.now title.now view
-        (option_map (λ text. text.items) page)) }
+    ensures { IfOk result (λ page. IsPage outbox.now.list around.entry.now title.now
+        (option_copied competition.entry) view (option_map (λ text. text.items) page)) }
 {
     match view {
-        TableView::Overview => Ok(Some(overview(alloc, around)?)),
+        TableView::Overview => { Ok(Some(overview(alloc, around, competition.is_some())?)) }
         TableView::People => Ok(Some(people_page(alloc, around)?)),
         TableView::Person(number) => person_page(alloc, around, number),
+        TableView::Before => Ok(Some(before_page(alloc, around, competition)?)),
         TableView::Import => Ok(Some(import_page(alloc, around)?)),
         TableView::Rounds(round) => Ok(Some(rounds_page(alloc, around, round)?)),
         TableView::Card { round, number } => {
@@ -52,7 +56,9 @@ fn page_of(
             alloc, around, round, number,
         )?)),
         TableView::Wall(round) => wall_sheet(alloc, around.mirror, title, round),
-        TableView::Scorecards(round) => scorecards(alloc, around.mirror, title, round),
+        TableView::Scorecards(round) => {
+            scorecards(alloc, around.mirror, competition, title, round)
+        }
     }
 }
 
@@ -81,10 +87,12 @@ pub(crate) fn plan_read(
     alloc: Global,
     outbox: &Outbox,
     title: &[u8],
+    competition: Option<&CompetitionFile>,
     around: &PageContext<'_>,
     request: &Request<Bytes>,
 ) -> Result<RequestPlan, AllocError>
-    ensures { IfOk result (PlansRead outbox.now.list around.entry.now title.now request.now) }
+    ensures { IfOk result (PlansRead outbox.now.list around.entry.now title.now
+        (option_copied competition.entry) request.now) }
 {
     let path = request.uri().path().as_bytes();
     match asked_at(alloc, path, query_of(request))? {
@@ -92,7 +100,7 @@ pub(crate) fn plan_read(
         Some(Resource::Style) => Ok(RequestPlan::shown(PageReply::Style)),
         Some(Resource::Script) => Ok(RequestPlan::shown(PageReply::Script)),
         Some(Resource::Page(view)) => {
-            let page = page_of(alloc, outbox, title, around, view)?;
+            let page = page_of(alloc, outbox, title, competition, around, view)?;
             Ok(plan_page(page))
         }
     }

@@ -128,16 +128,38 @@ body.wall tr { break-inside: avoid; }
 .signature { margin-top: 12mm; break-inside: avoid; }
 .signature span { display: inline-block; width: 60mm; border-bottom: 1px solid #000; }
 body.scorecards main { display: grid; grid-template-columns: 1fr 1fr; grid-auto-rows: 136mm; }
-.scorecard { border: 1px dashed #888; padding: 5mm; break-inside: avoid; overflow: hidden; }
+.scorecard { position: relative; border: 1px dashed #888; padding: 5mm; break-inside: avoid;
+  overflow: hidden; }
 .scorecard p { margin: 0 0 1mm; }
-.scorecard .hall { font-size: .8rem; }
+.scorecard .hall { font-size: .75rem; max-width: 48mm; }
 .scorecard .round { font-weight: bold; }
-.scorecard .who { font-size: 1.2rem; overflow-wrap: anywhere; max-height: 2.8em; overflow: hidden; }
-.scorecard th, .scorecard td { border: 1px solid #000; height: 13mm; text-align: center; }
-.scorecard thead th { height: auto; font-size: .8rem; font-weight: normal; }
-.scorecard th:first-child { width: 8mm; }
-.scorecard td:nth-child(2) { width: 45%; }
+.scorecard .group { position: absolute; top: 5mm; right: 5mm; }
+.scorecard .who { display: grid; grid-template-columns: auto 1fr; column-gap: 3mm; line-height: 1.2; }
+.scorecard .who b { grid-row: 1 / 3; align-self: center; min-width: 16mm; font-size: 2.2rem;
+  line-height: 1; }
+.scorecard .who bdi { min-height: 1.2em; max-height: 3.6em; overflow: hidden; overflow-wrap: anywhere; }
+.scorecard .who > span { min-height: 1.2em; font-size: .85rem; }
+.scorecard :is(.group, .next) span { display: inline-block; min-width: 18mm; }
+.scorecard :is(b, bdi, .who > span):empty, .scorecard :is(.group, .next) span {
+  border-bottom: 1px solid #000; }
+.scorecard :is(.next, .together) { font-size: .75rem; }
+.scorecard th, .scorecard td { border: 1px solid #000; height: 11mm; text-align: center; }
+.scorecard table { table-layout: fixed; }
+.scorecard th, .scorecard td { padding: 0; }
+.scorecard thead th { height: auto; font-size: .65rem; font-weight: normal; }
+.scorecard thead th:first-child { width: 12mm; }
+.scorecard thead th:nth-child(3) { width: 32%; }
+.scorecard thead th:nth-child(5) { width: 20%; }
+.scorecard tr.cutoff > * { border-bottom: 1mm solid #000; }
+.scorecard tr.extra > * { height: 8mm; border-style: dashed; }
+.scorecard tr.extra th { font-size: .75rem; font-weight: normal; }
 .scorecard .rules { font-size: .75rem; margin-top: 2mm; }
+.duties { grid-column: 1 / 3; display: grid; grid-template-columns: 1fr 1fr 2fr; gap: 0 5mm;
+  align-content: start; padding: 5mm; border: 1px dashed #888; break-inside: avoid; overflow: hidden; }
+.duties h2 { grid-column: 1 / 4; margin: 0 0 2mm; font-size: 1rem; }
+.duties h3 { margin: 0 0 1mm; font-size: .9rem; }
+.duties ul { margin: 0; padding: 0; list-style: none; font-size: .75rem; }
+.duties div:last-child ul { columns: 2; }
 @page { size: A4; margin: 10mm; }
 ";
 

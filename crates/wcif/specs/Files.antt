@@ -30,14 +30,22 @@ abbrev pub SetsUp : Options → List ℕ → List Command → Type 0
 SetsUp options bytes made =
     (d : Data) × Holds bytes d × (faults options d ≡ []) × (made ≡ commands options d)
 
--- why a file gives no commands
-abbrev pub FileFails : Options → List ℕ → FileFault → Type 0
-FileFails options bytes TooLong = most_bytes < length bytes
-FileFails options bytes (NotJson fault) =
+-- why a file is not read
+abbrev pub ReadFails : List ℕ → FileFault → Type 0
+ReadFails bytes TooLong = most_bytes < length bytes
+ReadFails bytes (NotJson fault) =
     (length bytes ≤ most_bytes) × (IsUtf8 (without_mark bytes) → read (without_mark bytes) ≡ None)
-FileFails options bytes TooDeep =
+ReadFails bytes TooDeep =
     (d : Data) × (length bytes ≤ most_bytes) × IsUtf8 (without_mark bytes)
     × (read (without_mark bytes) ≡ Some d) × (most_levels < depth d)
+ReadFails bytes (Refused found) = ⊥
+ReadFails bytes NoMemory = Unit {0}
+
+-- why a file gives no commands
+abbrev pub FileFails : Options → List ℕ → FileFault → Type 0
+FileFails options bytes TooLong = ReadFails bytes TooLong
+FileFails options bytes (NotJson fault) = ReadFails bytes (NotJson fault)
+FileFails options bytes TooDeep = ReadFails bytes TooDeep
 FileFails options bytes (Refused found) =
     (d : Data) × Holds bytes d × (found.items ≡ faults options d) × (faults options d ≢ [])
 FileFails options bytes NoMemory = Unit {0}

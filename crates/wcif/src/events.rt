@@ -39,7 +39,7 @@ pub(crate) fn rounds_of(event: &Value) -> &[Value]
 
 /// Whether an accepted person is registered for the event.
 #[tactic(auto, unfolding(crate::specs::Events::enters))]
-fn enters(event: Event, person: &Value) -> bool
+pub fn enters(event: Event, person: &Value) -> bool
     ensures { result ≡ enters event (view person.now) }
 {
     match event_ids(person) {

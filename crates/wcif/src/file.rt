@@ -1,7 +1,9 @@
 //! A competition from the bytes of a file.
 
 ghost use Rattle.std.specs.Prelude.{◌≡◌, IfOk, IfErr};
-ghost use Rattle.wcif.specs.{Files.without_mark, Files.SetsUp, Files.FileFails, Later.SaysLater};
+ghost use Rattle.serde_json.specs.View.{view};
+ghost use Rattle.wcif.specs.Files.{FileFails, Holds, ReadFails, SetsUp, without_mark};
+ghost use Rattle.wcif.specs.Later.{SaysLater};
 
 use crate::fault::CompetitionFault;
 use crate::importing::{ImportFault, ImportedCompetition, import};
@@ -43,15 +45,40 @@ pub fn without_mark(bytes: &[u8]) -> &[u8]
     }
 }
 
-/// The commands that set up the competition of a file in the WCA Competition Interchange Format,
-/// and what is to be known of rounds that they do not open. A byte-order mark at the front is
-/// dropped.
+/// The JSON value of a file. A byte-order mark at the front is dropped.
 ///
 /// # Errors
 ///
 /// - `TooLong` where the file has more than 64 MiB.
 /// - `NotJson` where it is no JSON in UTF-8.
 /// - `TooDeep` where lists and objects nest more than 64 deep.
+/// - `NoMemory` where memory ran out.
+pub fn read_file(alloc: Global, bytes: &[u8]) -> Result<Value, FileFault>
+    ensures ok { IfOk result (λ value. Holds bytes.now (view value)) }
+    ensures err { IfErr result (ReadFails bytes.now) }
+{
+    if bytes.len() > MOST_BYTES {
+        return Err(FileFault::TooLong);
+    }
+    let value = match Value::from_slice(alloc, without_mark(bytes)) {
+        Ok(value) => value,
+        Err(error) if error.is_memory() => return Err(FileFault::NoMemory),
+        Err(error) => return Err(FileFault::NotJson(error)),
+    };
+    if nests_within(&value, MOST_LEVELS) {
+        Ok(value)
+    } else {
+        Err(FileFault::TooDeep)
+    }
+}
+
+/// The commands that set up the competition of a file in the WCA Competition Interchange Format,
+/// and what is to be known of rounds that they do not open. A byte-order mark at the front is
+/// dropped.
+///
+/// # Errors
+///
+/// - Those of [`read_file`].
 /// - `Refused` where a desk cannot hold all of the competition: every fault, as [`import`] has
 ///   them.
 /// - `NoMemory` where memory ran out.
@@ -64,17 +91,7 @@ pub fn import_file(
     ensures later { IfOk result (λ made. SaysLater options bytes.now made.later.items) }
     ensures err { IfErr result (FileFails options bytes.now) }
 {
-    if bytes.len() > MOST_BYTES {
-        return Err(FileFault::TooLong);
-    }
-    let value = match Value::from_slice(alloc, without_mark(bytes)) {
-        Ok(value) => value,
-        Err(error) if error.is_memory() => return Err(FileFault::NoMemory),
-        Err(error) => return Err(FileFault::NotJson(error)),
-    };
-    if !nests_within(&value, MOST_LEVELS) {
-        return Err(FileFault::TooDeep);
-    }
+    let value = read_file(alloc, bytes)?;
     match import(alloc, &value, options) {
         Ok(made) => Ok(made),
         Err(ImportFault::Refused(faults)) => Err(FileFault::Refused(faults)),

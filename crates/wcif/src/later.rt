@@ -139,7 +139,7 @@ fn push_event(
 }
 
 /// What is said of the rounds of all events.
-pub(crate) fn later_rounds(
+pub fn later_rounds(
     alloc: Global,
     how: CumulativeLimits,
     events: &[Value],
@@ -172,7 +172,7 @@ fn push_line(alloc: Global, out: &mut Vec<u8>, later: RoundImport) -> Result<(),
 }
 
 /// What is said of rounds as lines, each a comment with a line feed at its end.
-pub(crate) fn print_later(alloc: Global, later: &[RoundImport]) -> Result<Vec<u8>, NoMemory>
+pub fn print_later(alloc: Global, later: &[RoundImport]) -> Result<Vec<u8>, NoMemory>
     ensures { IfOk result (λ text. text.items ≡ later_lines later.now) }
 {
     let mut out = Vec::new(alloc);

@@ -19,15 +19,18 @@ mod setting_up;
 mod settings;
 mod text;
 
+pub use events::enters;
 pub use fault::{CompetitionFault, EventFault, FilePerson, PersonFault, RoundFault};
-pub use file::{FileFault, import_file, without_mark};
+pub use file::{FileFault, import_file, read_file, without_mark};
 pub use importing::{ImportFault, ImportedCompetition, import};
-pub use later::RoundImport;
+pub use later::{RoundImport, later_rounds, print_later};
 pub use laws::{
     accepts_all, commands_are_fit, does_all_lines, lists_are_held, names_are_apart,
     prints_whole_lines, sets_up_meet,
 };
+pub use members::{list_at, member_at, number_at, text_at};
 pub use options::{CumulativeLimits, Edition, Options, SameNames};
+pub use persons::{given_name, is_accepted, number_of, text_under};
 pub use quoted::Quoted;
-pub use settings::round_id;
+pub use settings::{number_within, round_id};
 pub use text::{print_imported, print_lines};

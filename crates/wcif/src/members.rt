@@ -7,7 +7,7 @@ ghost use Rattle.wcif.specs.Members.{member_at, text_at, number_at, list_at};
 use serde_json::Value;
 
 /// A member that is there and is not null.
-pub(crate) fn member_at<'v>(value: &'v Value, name: &str) -> Option<&'v Value>
+pub fn member_at<'v>(value: &'v Value, name: &str) -> Option<&'v Value>
     ensures { option_map (λ v. view v.now) result ≡ member_at name.now (view value.now) }
 {
     match value.get(name) {
@@ -17,21 +17,21 @@ pub(crate) fn member_at<'v>(value: &'v Value, name: &str) -> Option<&'v Value>
 }
 
 /// A member that is a text.
-pub(crate) fn text_at<'v>(value: &'v Value, name: &str) -> Option<&'v str>
+pub fn text_at<'v>(value: &'v Value, name: &str) -> Option<&'v str>
     ensures { option_map (λ s. s.now) result ≡ text_at name.now (view value.now) }
 {
     value.get(name).and_then(Value::as_str)
 }
 
 /// A member that is a whole number, and not negative.
-pub(crate) fn number_at(value: &Value, name: &str) -> Option<u64>
+pub fn number_at(value: &Value, name: &str) -> Option<u64>
     ensures { result ≡ number_at name.now (view value.now) }
 {
     value.get(name).and_then(Value::as_u64)
 }
 
 /// A member that is a list.
-pub(crate) fn list_at<'v>(value: &'v Value, name: &str) -> Option<&'v [Value]>
+pub fn list_at<'v>(value: &'v Value, name: &str) -> Option<&'v [Value]>
     ensures { option_map (λ vs. map view vs.now) result ≡ list_at name.now (view value.now) }
 {
     match value.get(name)?.as_array() {

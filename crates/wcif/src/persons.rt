@@ -16,7 +16,7 @@ pub(crate) fn text_of(value: &Value) -> &str
 }
 
 /// A text under a name; the empty one where there is none.
-pub(crate) fn text_under<'v>(value: &'v Value, name: &str) -> &'v str
+pub fn text_under<'v>(value: &'v Value, name: &str) -> &'v str
     ensures { result.now ≡ text_under name.now (view value.now) }
 {
     text_at(value, name).unwrap_or("")
@@ -32,7 +32,7 @@ fn status(person: &Value) -> Option<&str>
 
 /// Whether a person's registration is accepted.
 #[tactic(auto, unfolding(crate::specs::Persons::is_accepted))]
-pub(crate) fn is_accepted(person: &Value) -> bool
+pub fn is_accepted(person: &Value) -> bool
     ensures { result ≡ is_accepted (view person.now) }
 {
     status(person).unwrap_or("").as_bytes() == b"accepted".as_slice()
@@ -40,7 +40,7 @@ pub(crate) fn is_accepted(person: &Value) -> bool
 
 /// The number in the file.
 #[tactic(auto, unfolding(crate::specs::Persons::number_of))]
-pub(crate) fn number_of(person: &Value) -> Option<u64>
+pub fn number_of(person: &Value) -> Option<u64>
     ensures { result ≡ number_of (view person.now) }
 {
     number_at(person, "registrantId")
@@ -48,7 +48,7 @@ pub(crate) fn number_of(person: &Value) -> Option<u64>
 
 /// The name in the file; the empty text where there is none.
 #[tactic(auto, unfolding(crate::specs::Persons::given_name))]
-pub(crate) fn given_name(person: &Value) -> &str
+pub fn given_name(person: &Value) -> &str
     ensures { result.now ≡ given_name (view person.now) }
 {
     text_under(person, "name")

@@ -31,6 +31,13 @@ impl Quoted {
         bytes.extend_from_slice(text)?;
         Ok(Quoted { bytes })
     }
+
+    /// The text.
+    pub fn as_bytes(&self) -> &[u8]
+        ensures { result.now ≡ self.now }
+    {
+        &self.bytes
+    }
 }
 
 /// The text up to a place; nothing where it is none.

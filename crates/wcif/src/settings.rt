@@ -25,7 +25,7 @@ const MOST_LIMIT: u64 = 360_000;
 const MOST_PERCENT: u64 = 75;
 
 /// A member that is a number in a range.
-fn number_within(value: &Value, name: &str, low: u64, high: u64) -> Option<u64>
+pub fn number_within(value: &Value, name: &str, low: u64, high: u64) -> Option<u64>
     ensures value { result ≡ number_within low high name.now (view value.now) }
     ensures within { IfSome result (λ n. n ≤ high) }
 {

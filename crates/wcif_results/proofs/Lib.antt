@@ -6,3 +6,4 @@ pub mod MeetIds
 pub mod Naming
 pub mod Numerals
 pub mod ReadBack
+pub mod Unread

@@ -1,10 +1,11 @@
 -- A competition's file read, and written with the results of a meet (the project's own).
-use Rattle.std.specs.Prelude.{◌≡◌, ◌≢◌, ◌≤◌, ◌<◌, ℕ, List, [], length, Some, None}
+use Rattle.std.specs.Prelude.{◌≡◌, ◌≢◌, ◌≤◌, ◌<◌, ℕ, List, [], length, Option, Some, None}
 use Rattle.std.specs.Str.{IsUtf8}
 use Rattle.json.specs.{Json.Json, Json.document, Print.print, Tree.depth, Tree.json_tokens}
 use Rattle.texts.specs.declared.command.Command.{Command}
 use Rattle.wcif.specs.Files.{most_bytes, most_levels, without_mark}
 use Rattle.wcif_results.specs.{declared.exporting.ExportFault.ExportFault, Faults.faults}
+use Rattle.wcif_results.specs.declared.exporting.Findings.{Findings}
 use Rattle.wcif_results.specs.declared.exporting.ExportFault.TheVariants.{TooLong, NotJson, TooDeep}
 use Rattle.wcif_results.specs.declared.exporting.ExportFault.TheVariants.{Refused, NoMemory}
 use Rattle.wcif_results.specs.{Filled.filled, Notes.notes, declared.note.ExportNote.ExportNote}
@@ -37,15 +38,28 @@ abbrev pub IsNotJson : ExportFault → Type 0
 IsNotJson (NotJson line column) = Unit {0}
 IsNotJson _ = ⊥
 
--- why nothing is exported
-abbrev pub ExportFails : List Command → List ℕ → ExportFault → Type 0
-ExportFails cs bytes TooLong = most_bytes < length bytes
-ExportFails cs bytes (NotJson line column) =
+-- why a file is not read
+abbrev pub ReadFails : List ℕ → ExportFault → Type 0
+ReadFails bytes TooLong = most_bytes < length bytes
+ReadFails bytes (NotJson line column) =
     (length bytes ≤ most_bytes)
     × (IsUtf8 (without_mark bytes) → document (without_mark bytes) ≡ None)
-ExportFails cs bytes TooDeep =
+ReadFails bytes TooDeep =
     (d : Json) × (length bytes ≤ most_bytes) × IsUtf8 (without_mark bytes)
     × (document (without_mark bytes) ≡ Some d) × (most_levels < depth d)
+ReadFails bytes (Refused found) = ⊥
+ReadFails bytes NoMemory = Unit {0}
+
+-- why nothing is exported
+abbrev pub ExportFails : List Command → List ℕ → ExportFault → Type 0
 ExportFails cs bytes (Refused found) =
     (d : Json) × Holds bytes d × (found.items ≡ faults cs d) × (faults cs d ≢ [])
-ExportFails cs bytes NoMemory = Unit {0}
+ExportFails cs bytes fault = ReadFails bytes fault
+
+-- what an export of the meet over the file would be refused for, and what it would be told, whether
+-- or not it is refused; nothing only where the bytes hold no value
+abbrev pub AreFindings : List Command → List ℕ → Option Findings → Type 0
+AreFindings cs bytes None = (d : Json) → Holds bytes d → ⊥
+AreFindings cs bytes (Some found) =
+    (d : Json) × Holds bytes d × (found.faults.items ≡ faults cs d)
+    × (found.notes.items ≡ notes cs d)

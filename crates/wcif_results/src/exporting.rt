@@ -3,7 +3,8 @@
 ghost use Rattle.std.specs.Prelude.{◌≡◌, ◌≤◌, map, IfOk, IfErr};
 ghost use Rattle.json.specs.{Tree.HasNumbers, Tree.depth, Value.value_view};
 ghost use Rattle.wcif.specs.Files.{most_levels};
-ghost use Rattle.wcif_results.specs.Files.{IsTextOf, IsNotJson, Exports, ExportFails, HasNotes};
+ghost use Rattle.wcif_results.specs.Files.{AreFindings, ExportFails, Exports, HasNotes, Holds};
+ghost use Rattle.wcif_results.specs.Files.{IsNotJson, IsTextOf, ReadFails};
 ghost use Rattle.wcif_results.specs.{Filled.filled_file, model.Opened.round_view};
 
 use crate::fault::MeetFault;
@@ -48,6 +49,13 @@ pub enum ExportFault {
     NoMemory,
 }
 
+/// What an export would be refused for, by rounds, and what would be said of it.
+#[derive(Drop)]
+pub struct Findings {
+    pub faults: Vec<MeetFault>,
+    pub notes: Vec<ExportNote>,
+}
+
 impl From<AllocError> for ExportFault {
     ghost use Rattle.wcif_results.specs.declared.exporting.ExportFault.TheVariants as export_fault;
 
@@ -69,6 +77,30 @@ fn not_json(alloc: Global, text: &[u8]) -> ExportFault
             column: error.column(),
         },
     }
+}
+
+/// The value of a file within the limits.
+fn read_file<'a>(
+    alloc: Global,
+    bytes: &'a [u8],
+    scratch: &'a mut Scratch,
+) -> Result<Value<'a>, ExportFault>
+    ensures ok { IfOk result (λ file. Holds bytes.now (value_view file)) }
+    ensures numbers { IfOk result (λ file. HasNumbers (value_view file)) }
+    ensures err { IfErr result (ReadFails bytes.now) }
+{
+    if bytes.len() > MOST_BYTES {
+        return Err(ExportFault::TooLong);
+    }
+    let file = match Value::from_slice(alloc, without_mark(bytes), scratch) {
+        Ok(file) => file,
+        Err(Error::OutOfMemory) => return Err(ExportFault::NoMemory),
+        Err(_) => return Err(not_json(alloc, without_mark(bytes))),
+    };
+    if !nests_within(&file, MOST_LEVELS) {
+        return Err(ExportFault::TooDeep);
+    }
+    Ok(file)
 }
 
 /// The text of a file with the results of these rounds.
@@ -100,23 +132,14 @@ fn text_of(alloc: Global, rounds: &[MeetRound<'_>], file: &Value<'_>) -> Result<
 ///   `registrantId` of its accepted persons, or that person's name is none that the number was
 ///   given: every fault, by rounds in the order of the events' numbers.
 /// - `NoMemory` where memory ran out.
+#[tactic(auto, using(crate::proofs::Unread::unread_fails))]
 pub fn export(alloc: Global, bytes: &[u8], meet: &NamedMeet) -> Result<ExportedFile, ExportFault>
     ensures ok { IfOk result (λ made. Exports meet.now.accepted bytes.now made.text.items) }
     ensures told { IfOk result (λ made. HasNotes meet.now.accepted bytes.now made.notes.items) }
     ensures err { IfErr result (ExportFails meet.now.accepted bytes.now) }
 {
-    if bytes.len() > MOST_BYTES {
-        return Err(ExportFault::TooLong);
-    }
     let mut scratch = Scratch::new(alloc);
-    let file = match Value::from_slice(alloc, without_mark(bytes), &mut scratch) {
-        Ok(file) => file,
-        Err(Error::OutOfMemory) => return Err(ExportFault::NoMemory),
-        Err(_) => return Err(not_json(alloc, without_mark(bytes))),
-    };
-    if !nests_within(&file, MOST_LEVELS) {
-        return Err(ExportFault::TooDeep);
-    }
+    let file = read_file(alloc, bytes, &mut scratch)?;
     let rounds = meet_rounds(alloc, meet.meet())?;
     let faults = faults_of(alloc, meet, &rounds, &file)?;
     if !faults.is_empty() {
@@ -126,4 +149,31 @@ pub fn export(alloc: Global, bytes: &[u8], meet: &NamedMeet) -> Result<ExportedF
         text: text_of(alloc, &rounds, &file)?,
         notes: notes_of(alloc, &rounds, &file)?,
     })
+}
+
+/// What [`export`] of a meet over a competition's file would be refused for, and what it would say
+/// of the file, were it not refused. Nothing where the file is not read, as `export` says.
+///
+/// # Errors
+///
+/// Where memory runs out.
+#[tactic(auto, using(crate::proofs::Unread::holds_nothing))]
+pub fn findings_of(
+    alloc: Global,
+    bytes: &[u8],
+    meet: &NamedMeet,
+) -> Result<Option<Findings>, NoMemory>
+    ensures { IfOk result (AreFindings meet.now.accepted bytes.now) }
+{
+    let mut scratch = Scratch::new(alloc);
+    let file = match read_file(alloc, bytes, &mut scratch) {
+        Ok(file) => file,
+        Err(ExportFault::NoMemory) => return Err(AllocError),
+        Err(_) => return Ok(None),
+    };
+    let rounds = meet_rounds(alloc, meet.meet())?;
+    Ok(Some(Findings {
+        faults: faults_of(alloc, meet, &rounds, &file)?,
+        notes: notes_of(alloc, &rounds, &file)?,
+    }))
 }

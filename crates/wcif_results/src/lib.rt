@@ -17,7 +17,7 @@ mod results;
 pub mod results_json;
 
 pub use encoding::{attempt_result, average_result, best_result};
-pub use exporting::{ExportFault, ExportedFile, export};
+pub use exporting::{ExportFault, ExportedFile, Findings, export, findings_of};
 pub use fault::MeetFault;
 pub use laws::{multi_blind_is_the_wcas, others_stay, results_read_back, ten_digits_read_back};
 pub use named_meet::{GivenName, NamedMeet};

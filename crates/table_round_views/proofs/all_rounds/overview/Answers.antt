@@ -5,5 +5,10 @@ use Rattle.table_round_views.proofs.all_rounds.overview.Goals as goal
 pub returns : goal.returns
 unfolding overview
 returns c =
-    simp (c.in_ok-push_section.ensures, c.in_ok-push_end.ensures, c.in_ok-page.ensures)
+    simp (
+      c.in_ok-push_section.ensures,
+      c.in_ok-push_before.ensures,
+      c.in_ok-push_end.ensures,
+      c.in_ok-page.ensures,
+    )
     (simp (c.meet.ensures, append_assoc))

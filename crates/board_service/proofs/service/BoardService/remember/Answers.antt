@@ -12,5 +12,5 @@ invariant_of-self c =
     put_is_at title fields.mirroring.entries fields.shelf c.put.new.self path c.in-Some.page
     c.self.invariant
     (subst (λ (o : Option Page). IsPageAt title fields.mirroring.entries path o) c.in-Some.is
-    (stands_within title fields.mirroring fields.desks fields.time c.args.self.now c.self.view_is
-    path c.args.made c.requires)) c.put.ensures
+    (stands_within title fields.mirroring fields.desks fields.competition fields.time
+    c.args.self.now c.self.view_is path c.args.made c.requires)) c.put.ensures

@@ -11,6 +11,7 @@ returns-in-Some-clause-shows c =
     let path = c.path-path.ensures.value ∙ ap uri_path c.uri.ensures in
     shows c.args.self.now c.args.request.now c.reply.new.response c.path-path.result.now
     (Some page) path
-    (kept_stands (string_bytes fields.title) fields.mirroring fields.desks fields.time
-    c.args.self.now fields.shelf c.self.view_is c.self.invariant c.path-path.result.now page
+    (kept_stands (string_bytes fields.title) fields.mirroring fields.desks fields.competition
+    fields.time c.args.self.now fields.shelf c.self.view_is c.self.invariant
+    c.path-path.result.now page
     (sym c.get.ensures ∙ ap option_copied c.in-Some.is)) c.in_ok-reply.ensures

@@ -10,9 +10,11 @@ returns g c = record {
       (λ (ids : List (List ℕ)). service (string_bytes c.args.setup.title)
       (string_bytes c.args.setup.name) (map string_bytes c.args.setup.hosts.items)
       (string_bytes c.args.setup.token) c.args.setup.proposals.items c.args.mirroring
-      c.unknown_desks.result c.not_kept.new.self ids 0 None c.args.file) c.new.ensures.items
+      c.args.setup.competition c.unknown_desks.result c.not_kept.new.self ids 0 None c.args.file)
+      c.new.ensures.items
       ∙ ap (λ (o : OutboxOf). service (string_bytes c.args.setup.title)
       (string_bytes c.args.setup.name) (map string_bytes c.args.setup.hosts.items)
       (string_bytes c.args.setup.token) c.args.setup.proposals.items c.args.mirroring
-      c.unknown_desks.result o [] 0 None c.args.file) c.not_kept.ensures.back;
+      c.args.setup.competition c.unknown_desks.result o [] 0 None c.args.file)
+      c.not_kept.ensures.back;
 }

@@ -8,7 +8,7 @@ use Rattle.table_service.proofs.service.TableService.plan_with.Goals as goal
 pub returns : goal.returns
 returns g c =
     let seen = c.self.view_is in
-    around_planned c.args.self.now c.args.ids.now c.args.request.now _ _ _ c.plan_own.result
+    around_planned c.args.self.now c.args.ids.now c.args.request.now _ _ _ _ c.plan_own.result
     c.plan_own.ensures record {
       mirror = c.mirror-2.ensures ∙ ap (λ (s : ServiceOf). s.mirroring.entries) seen;
       desks = ap (λ (s : ServiceOf). s.desks) seen;
@@ -32,4 +32,5 @@ returns g c =
           ∙ ap (λ (s : ServiceOf).
           waits s.outbox.list s.mirroring.entries s.time (sent_before c.args.request.now)) seen;
     } (c.as_bytes-title.ensures.value ∙ ap (λ (s : ServiceOf). s.title) seen)
+    (c.as_ref.ensures.value ∙ ap (λ (s : ServiceOf). s.competition) seen)
     (ap (λ (s : ServiceOf). s.outbox.list) seen)

@@ -24,7 +24,7 @@ returns-in-Ok-false-clause-ok g c =
     let stays =
     ap (λ (o : OutboxOf). service (string_bytes now.setup.title) (string_bytes now.setup.name)
     (map string_bytes now.setup.hosts.items) (string_bytes now.setup.token)
-    now.setup.proposals.items now.mirroring
+    now.setup.proposals.items now.mirroring now.setup.competition
     now.desks o now.ids.items now.time now.clock now.file) same
     ∙ c.self.view_is in
     (inl (left, stays), search rules)

@@ -1,0 +1,194 @@
+"""What pages show of a competition's file beside a list of results: a second program of the
+definitions (docs/FORMATS.md, 'Beside the list'). It uses nothing of the crates.
+
+A member that is missing, null or of another kind is as if it was not there.
+"""
+
+import re
+
+import rules
+from wcif import accepted, listed, member, text, whole
+
+# ranked by the single, since they have no average or mean: WCA Regulations, article 9b
+BY_SINGLE = ("333bf", "444bf", "555bf", "333mbf")
+NUMBER = re.compile("[1-9][0-9]{0,3}")
+ON_PAGE = 4
+DUTIES = {"Scramblers": "staff-scrambler", "Runners": "staff-runner", "Judges": "staff-judge"}
+
+
+def numbered(value, name, most):
+    """A number of 1 to so many."""
+    number = whole(member(value, name))
+    return number if number and number <= most else None
+
+
+def best(person, event, kind):
+    """The first number that the file has for a best of somebody."""
+    for one in listed(person, "personalBests") or []:
+        number = numbered(one, "best", 2**32 - 1)
+        if (text(one, "eventId"), text(one, "type")) == (event, kind) and number:
+            return number
+    return None
+
+
+# ---- who is registered for an event
+
+
+def kinds_of(event):
+    """By what an event is ranked, and the other kind."""
+    return ("single", "average") if event in BY_SINGLE else ("average", "single")
+
+
+def words(event, kind, number):
+    if number is None:
+        return ""
+    return (rules.printed if kind == "single" else rules.printed_average)(number, event)
+
+
+def psych(value, event):
+    """A row for each who is registered: rank, country, name, the best by which the event is ranked,
+    the other one, and the WCA ID."""
+    main, other = kinds_of(event)
+    there = [person for person in listed(value, "persons") or [] if accepted(person)
+             and event in (listed(member(person, "registration"), "eventIds") or [])]
+    bests = [(best(person, event, main), best(person, event, other)) for person in there]
+    known = [one for one, _ in bests if one is not None]
+    after_all = max([one for pair in bests for one in pair if one is not None], default=0) + 1
+    order = sorted(range(len(there)),
+                   key=lambda at: tuple(one or after_all for one in bests[at]))
+    rows = []
+    for at in order:
+        person, own = there[at], bests[at][0]
+        rank = "" if own is None else str(1 + sum(one < own for one in known))
+        rows.append([rank, text(person, "countryIso2") or "", text(person, "name") or "",
+                     words(event, main, own), words(event, other, bests[at][1]),
+                     text(person, "wcaId") or ""])
+    return rows
+
+
+# ---- where people compete
+
+
+def group_number(code, event, number):
+    """The number of the group in the code of an activity, as 333-r1-g2 or 333fm-r1-g2-a1."""
+    parts = (code or "").split("-")
+    if len(parts) < 3 or parts[:2] != [event, f"r{number}"] or parts[2][:1] != "g":
+        return None
+    return int(parts[2][1:]) if NUMBER.fullmatch(parts[2][1:]) else None
+
+
+def groups(value, event, number):
+    """The groups of a round in the order of the file: the ids of their activities, and numbers."""
+    found = []
+    for venue in listed(member(value, "schedule"), "venues") or []:
+        for room in listed(venue, "rooms") or []:
+            for activity in listed(room, "activities") or []:
+                for child in listed(activity, "childActivities") or []:
+                    group = group_number(text(child, "activityCode"), event, number)
+                    one = whole(member(child, "id"))
+                    if group is not None and one is not None:
+                        found.append((one, group))
+    return found
+
+
+def person(value, number):
+    """The first accepted person with a number."""
+    for one in listed(value, "persons") or []:
+        if accepted(one) and whole(member(one, "registrantId")) == number:
+            return one
+    return None
+
+
+def seat(of_round, one):
+    """The group and the station (0 for none) of somebody's first assignment to compete in a round
+    of these groups, if there is one."""
+    for assignment in listed(one, "assignments") or []:
+        group = of_round.get(whole(member(assignment, "activityId")))
+        if text(assignment, "assignmentCode") == "competitor" and group is not None:
+            return group, numbered(assignment, "stationNumber", 9999) or 0
+    return None
+
+
+def cards(value, event, number, names):
+    """The cards of a round in their order: number, name, WCA ID, and where the competitor sits. It
+    is by groups, then by stations, who has none first; after these come those who have no group;
+    then it is by names, and last by numbers. `names` has those of the round by their numbers, and
+    `value` may be None: then there is no file."""
+    # of two groups with one id the first counts
+    of_round, made = dict(reversed(groups(value, event, number))), []
+    for who, name in names.items():
+        one = person(value, who)
+        at = seat(of_round, one)
+        key = (at is None, at or (0, 0), name.encode(), who)
+        words = "" if at is None else f"Group {at[0]}" + (f", station {at[1]}" if at[1] else "")
+        made.append((key, (who, name, text(one, "wcaId") or "", words)))
+    return [card for _, card in sorted(made)]
+
+
+def duties(value, event, number):
+    """Who helps in each group of a round, in the order of the file: the group's number, and three
+    lists of names."""
+    made = []
+    for activity, group in groups(value, event, number):
+        lists = []
+        for code in DUTIES.values():
+            lists.append([text(one, "name") or "" for one in listed(value, "persons") or []
+                          if any(text(it, "assignmentCode") == code
+                                 and whole(member(it, "activityId")) == activity
+                                 for it in listed(one, "assignments") or [])])
+        made.append((group, lists))
+    return made
+
+
+def limit_words(value, event, number):
+    """What a card says of a limit for several attempts together; nothing where there is none."""
+    def first(items, name):
+        return next((it for it in items or [] if (text(it, "id") or "") == name), None)
+    of_event = first(listed(value, "events"), event)
+    limit = member(first(listed(of_event, "rounds"), f"{event}-r{number}"), "timeLimit")
+    rounds, most = listed(limit, "cumulativeRoundIds"), numbered(limit, "centiseconds", 360000)
+    if not rounds or most is None:
+        return ""
+    ids = " ".join(it if isinstance(it, str) else "" for it in rounds)
+    return (f"by the competition's file: {rules.printed(most, '333')} for the attempts of {ids} "
+            "together")
+
+
+def blanks(count):
+    """How many cards without a name follow so many: the last page is filled, and there is one."""
+    return ON_PAGE - count % ON_PAGE
+
+
+# ---- what is asked about a time
+
+
+def doubts(value, event, who, entrants, times):
+    """What the file lets one ask of the times of a card, in hundredths with their penalties, None
+    for what is no time: the word that confirms it, and the question."""
+    if event in ("333fm", "333mbf"):
+        return []
+    own = best(person(value, who), event, "single")
+    field = [best(one, event, "single") for one in listed(value, "persons") or []
+             if accepted(one) and whole(member(one, "registrantId")) in entrants]
+    field = min((one for one in field if one), default=None)
+    made = []
+    for place, time in enumerate(times, 1):
+        for word, bound, share, words in (
+                ("best", own, (10, 8), "is less than 0.8 of {}, this competitor's best"),
+                ("field", field, (2, 1), "is less than half of {}, the best in this round")):
+            if time is not None and bound is not None and share[0] * time < share[1] * bound:
+                made.append((f"{word}-{place}", f"{rules.printed(time, event)} "
+                             + words.format(rules.printed(bound, event))
+                             + " by the competition's file: is it right?"))
+    return made
+
+
+# ---- before results are sent in
+
+
+def open_lines(refused, remarked):
+    """The lines of what an export would refuse and of what it would remark, in one list. A round
+    with a result that the file lacks is refused, and not left out."""
+    lacks = [line for line in refused if line.endswith(": the file has no such round")]
+    left_out = [line.replace(": the", ": left out: it has no result, and the") for line in lacks]
+    return refused + [line for line in remarked if line not in left_out]

@@ -1,0 +1,11 @@
+use Rattle.std.proofs.Common.{◌≡◌, ◌++◌, drop, flat_map, map}
+use Rattle.serde_json.specs.View.{view}
+use Rattle.table_entry_views.specs.paper.Lists.{group_list}
+use Rattle.table_entry_views.proofs.paper.group_lists.push_all_groups.Given as goal
+
+-- what was written, and what is written for those that are left, is the whole
+abbrev pub invariant-loop-group : goal.invariant-loop-group
+invariant-loop-group l =
+    l.out.items
+    ++ flat_map (group_list (map view l.persons) l.id l.advance) (drop l.group-index l.groups)
+    ≡ l.initial.out.items ++ flat_map (group_list (map view l.persons) l.id l.advance) l.groups
