@@ -14,6 +14,8 @@ BY_SINGLE = ("333bf", "444bf", "555bf", "333mbf")
 NUMBER = re.compile("[1-9][0-9]{0,3}")
 ON_PAGE = 4
 DUTIES = {"Scramblers": "staff-scrambler", "Runners": "staff-runner", "Judges": "staff-judge"}
+DOES = {"competitor": "competes", "staff-scrambler": "scrambles", "staff-runner": "runs",
+        "staff-judge": "judges"}
 
 
 def numbered(value, name, most):
@@ -157,6 +159,123 @@ def limit_words(value, event, number):
 def blanks(count):
     """How many cards without a name follow so many: the last page is filled, and there is one."""
     return ON_PAGE - count % ON_PAGE
+
+
+# ---- what is when
+
+
+def rooms(value):
+    """All rooms in the order of the file, each with its venue."""
+    return [(venue, room) for venue in listed(member(value, "schedule"), "venues") or []
+            for room in listed(venue, "rooms") or []]
+
+
+def in_order(ones):
+    """Activities in the order in which they begin, by the bytes of the times."""
+    return sorted(ones or [], key=lambda one: (text(one, "startTime") or "").encode())
+
+
+def times(one):
+    """From when to when, as the file has it."""
+    return [text(one, "startTime") or "", text(one, "endTime") or ""]
+
+
+def named(activity, one):
+    """What a part of an activity is, or the activity itself: its name, and before it that of the
+    activity where it does not begin with it."""
+    of, name = text(activity, "name") or "", text(one, "name") or ""
+    return name if name.startswith(of) else f"{of}, {name}"
+
+
+def schedule(value):
+    """A table for each room: the time zone, the room and the venue, and the lines. A line has
+    whether it is of a group, from when to when, the whole name, and the name."""
+    tables = []
+    for venue, room in rooms(value):
+        lines = []
+        for activity in in_order(listed(room, "activities")):
+            lines.append([False, *times(activity), named(activity, activity),
+                          text(activity, "name") or ""])
+            lines += [[True, *times(child), named(activity, child), text(child, "name") or ""]
+                      for child in in_order(listed(activity, "childActivities"))]
+        tables.append([text(venue, "timezone") or "", text(room, "name") or "",
+                       text(venue, "name") or "", lines])
+    return tables
+
+
+def below(one):
+    """An activity, and after it all that are below it."""
+    yield one
+    for child in listed(one, "childActivities") or []:
+        yield from below(child)
+
+
+def activities(value):
+    """Where each id of an activity is first: venue, room, the activity of the room, and the one
+    with this id."""
+    found = {}
+    for venue, room in rooms(value):
+        for activity in listed(room, "activities") or []:
+            for one in below(activity):
+                if whole(member(one, "id")) is not None:
+                    found.setdefault(member(one, "id"), (venue, room, activity, one))
+    return found
+
+
+def today(value, number):
+    """The name of a competitor, and a line for each assignment: the time zone, from when to when,
+    what, what to do, the room, and the station. None where the file has nobody with the number."""
+    one = person(value, number)
+    if one is None:
+        return None
+    there, lines = activities(value), []
+    for assignment in listed(one, "assignments") or []:
+        code = text(assignment, "assignmentCode") or ""
+        at = numbered(assignment, "stationNumber", 9999)
+        ends = [DOES.get(code, code), "", "" if at is None else str(at)]
+        found = there.get(whole(member(assignment, "activityId")))
+        line = ["", "", "", "an activity that the file does not have", *ends]
+        if found:
+            venue, room, activity, part = found
+            ends[1] = text(room, "name") or ""
+            line = [text(venue, "timezone") or "", *times(part), named(activity, part), *ends]
+        lines.append(line)
+    # who has no time comes first
+    return text(one, "name") or "", sorted(lines, key=lambda line: line[1].encode())
+
+
+# ---- records and labels
+
+
+def is_record(of, event, kind, result):
+    """Whether a result is not worse than the best that the file has of a person, or the first."""
+    if of is None or not isinstance(result, int):
+        return False
+    known = best(of, event, kind)
+    return known is None or result <= known
+
+
+def records(value, meet, event, number):
+    """A line for each entrant of a round in the order of the sheet: number, country, name, the best
+    single and the average, and whether each of the two is a personal record."""
+    table, lines = meet.rounds[event, number], []
+    for _, who, (average, single, *_), _ in rules.rows(table):
+        values, of = table.entrants[who], person(value, who)
+        lines.append([str(who), text(of, "countryIso2") or "", meet.names[who].decode(),
+                      single, average, is_record(of, event, "single", rules.best(values)),
+                      is_record(of, event, "average",
+                                rules.average(table.form, event, values))])
+    return lines
+
+
+def labels(value, names):
+    """A label for each registered competitor: number, name, and WCA ID and country by the file."""
+    made = []
+    for who in sorted(names):
+        of = person(value, who)
+        made.append((str(who), names[who].decode(),
+                     f"{text(of, 'wcaId') or ''} {text(of, 'countryIso2') or ''}"))
+    return made
 
 
 # ---- what is asked about a time

@@ -243,9 +243,26 @@ def page(title, log, path):
     return "text/html", keeping, position, framed(kind, shows, title, "", shown)
 
 
+def file_page(title, what, section):
+    """A page of a competition's file: its section, and what it is of."""
+    title = escaped(title)
+    return f"""<!DOCTYPE html>
+<html lang="en"><head><meta charset="utf-8">
+<meta name="viewport" content="width=device-width, initial-scale=1">
+<title>{what} - {title}</title><link rel="stylesheet" href="/style.css"></head>
+<body class="one"><main>
+<h1 dir="auto">{title}</h1>
+<nav>
+<a href="/">all rounds</a>
+<a href="/people">find a name</a>
+<a href="/schedule">schedule</a></nav>
+{section}</main></body></html>
+"""
+
+
 def psych(title, value, event):
     """The page of who is registered for an event by a competition's file."""
-    title, words, kinds = escaped(title), WORDS[event], beside.kinds_of(event)
+    words, kinds = WORDS[event], beside.kinds_of(event)
     headings = ["rank", "country", "name", *kinds, "WCA ID"]
     head = "".join(f'<th scope="col">{name}</th>' for name in headings)
     lines = ""
@@ -254,20 +271,34 @@ def psych(title, value, event):
         lines += f'<th scope="row" dir="auto">{escaped(name)}</th>'
         lines += "".join(f"<td>{escaped(text)}</td>" for text in rest) + "</tr>\n"
     lines = lines or '<tr><td colspan="6">Nobody is registered.</td></tr>\n'
-    return f"""<!DOCTYPE html>
-<html lang="en"><head><meta charset="utf-8">
-<meta name="viewport" content="width=device-width, initial-scale=1">
-<title>{words} - {title}</title><link rel="stylesheet" href="/style.css"></head>
-<body class="one"><main>
-<h1 dir="auto">{title}</h1>
-<nav>
-<a href="/">all rounds</a>
-<a href="/people">find a name</a></nav>
+    return file_page(title, words, f"""\
 <section class="people"><table><caption><h2>{words}</h2>by the competition's file</caption>
 <thead><tr>{head}</tr></thead><tbody>
 {lines}</tbody></table></section>
-</main></body></html>
+""")
+
+
+def records(title, value, meet, what, which):
+    """The page of which results of a round are personal records by a competition's file."""
+    if (what, which) in meet.rounds:
+        words = in_words(what, which, meet.rounds[what, which])
+        headings = ["number", "country", "name", "single", "average"]
+        head = "".join(f'<th scope="col">{name}</th>' for name in headings)
+        lines = ""
+        for who, country, name, *cells in beside.records(value, meet, what, which):
+            lines += f'<tr data-number="{who}"><td>{who}</td><td>{escaped(country)}</td>'
+            lines += f'<th scope="row" dir="auto">{escaped(name)}</th>'
+            for text, is_record in zip(cells[:2], cells[2:]):
+                lines += f'<td class="pr">{text}</td>' if is_record else f"<td>{text}</td>"
+            lines += "</tr>\n"
+        section = f"""<section class="records"><h2>{words}</h2>
+<table><caption>by the competition's file</caption>
+<thead><tr>{head}</tr></thead><tbody>
+{lines}</tbody></table></section>
 """
+    else:
+        section = ('<section class="records"><p>This round has not been opened.</p></section>\n')
+    return file_page(title, f"Personal records, {WORDS[what]}, Round {which}", section)
 
 
 def main():
@@ -287,8 +318,11 @@ def main():
             path = line[4:].decode()
             shown = page(title, log, path)
             out = f"== {path}\n"
+            found = re.fullmatch(f"/records/{ROUND}", path)
             if file is not None and path.removeprefix("/psych/") in WORDS:
                 out += psych(title, file, path.removeprefix("/psych/"))
+            elif file is not None and found:
+                out += records(title, file, meet_of(log), found[1], int(found[2]))
             elif shown is None:
                 out += "none\n"
             else:

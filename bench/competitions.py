@@ -4,11 +4,12 @@
     bench/competitions.py PEOPLE [--seed N] [--no-groups] [--megabytes N]
 
 prints the file of a competition with so many people. It is in the WCA Competition Interchange
-Format (1.0): several venues and rooms, groups that are below the activities of their rounds,
-assignments to compete and to help, personal bests with their rankings, names with a local name in
-parentheses, newcomers without a WCA ID, people whose registration is pending or deleted and who
-have no number, staff without a registration, limits for several attempts together. --megabytes
-adds texts of extensions until the file is as large.
+Format (1.0): several venues and rooms in two time zones, groups that are below the activities of
+their rounds and follow each other, activities that are not in the order of their times, assignments
+to compete, to help and to do what only the organizers know, personal bests with their rankings,
+names with a local name in parentheses, newcomers without a WCA ID, people whose registration is
+pending or deleted and who have no number, staff without a registration, limits for several attempts
+together. --megabytes adds texts of extensions until the file is as large.
 """
 
 import argparse
@@ -37,6 +38,9 @@ ODD = ("Tom & <b>Jerry</b>", "Ana María de los Ángeles Fernández-Villaverde y
        "محمد علي", "X", "O'Hal &amp; Ivo")
 COUNTRIES = ("DE", "CN", "US", "KR", "JP", "PL", "SA", "GB", "FR", "TH")
 HELP = ("staff-judge", "staff-scrambler", "staff-runner", "staff-judge")
+# what else a tool may assign
+OTHER = ("staff-dataentry", "staff-announcer", "staff-delegate", "staff-<photo & film>")
+ZONES = ("Europe/Berlin", "America/St_Johns")
 DAY = "2026-11-%02dT%02d:%02d:00Z"
 
 
@@ -88,15 +92,14 @@ class Competition:
         self.chance, self.people, self.with_groups = random.Random(seed), people, groups
         size = next((it for it in SIZES if people <= it[0]), SIZES[-1])
         self.events, self.rooms = list(EVENTS)[:size[1]], size[2]
-        self.last, self.groups = 0, {}
+        self.last, self.groups, self.others = 0, {}, []
 
     def new_id(self):
         self.last += 1
         return self.last
 
-    def activity(self, code, name, hour, children=()):
-        start = DAY % (28 + hour // 9, 8 + hour % 9, 0)
-        end = DAY % (28 + hour // 9, 8 + hour % 9, 50)
+    def activity(self, code, name, hour, children=(), minutes=(0, 50)):
+        start, end = (DAY % (28 + hour // 9, 8 + hour % 9, minute) for minute in minutes)
         return {"id": self.new_id(), "name": name, "activityCode": code, "startTime": start,
                 "endTime": end, "childActivities": list(children), "scrambleSetId": None,
                 "extensions": []}
@@ -111,14 +114,23 @@ class Competition:
             ends = ("-a1", "-a2") if event in ("333fm", "333mbf") else ("",)
             for end in ends:
                 children = []
-                for number in own if self.with_groups else ():
-                    child = self.activity(f"{event}-r1-g{number}{end}", f"Group {number}", hour)
+                name = f"{event}, Round 1"
+                for place, number in enumerate(own if self.with_groups else ()):
+                    # some tools write the name of the round before that of the group
+                    front = f"{name}, " if number % 3 == 0 else ""
+                    minutes = [50 * at // len(own) for at in (place, place + 1)]
+                    child = self.activity(f"{event}-r1-g{number}{end}", f"{front}Group {number}",
+                                          hour, minutes=minutes)
                     children.append(child)
                     self.groups.setdefault(event, {}).setdefault(number, []).append(child["id"])
-                made.append(self.activity(f"{event}-r1{end}", f"{event}, Round 1", hour, children))
+                # they are not always in the order of their times
+                made.append(self.activity(f"{event}-r1{end}", name, hour,
+                                          children[::-1] if hour % 4 == 3 else children))
             if len(self.rounds(event)) > 1 and room == 0:
                 made.append(self.activity(f"{event}-r2", f"{event}, Final", hour + 8))
-        return made + [self.activity("other-awards", "Awards", 26)]
+        made.append(self.activity("other-awards", "Awards & <i>thanks</i>", 26))
+        self.others += [made[0]["id"], made[-1]["id"]]
+        return made[::-1] if room % 2 else made
 
     def schedule(self):
         venues, room, total = [], 0, sum(self.rooms)
@@ -130,7 +142,7 @@ class Competition:
                 room += 1
             venues.append({"id": place + 1, "name": f"Hall {place + 1}",
                            "latitudeMicrodegrees": 52516266, "longitudeMicrodegrees": 13377775,
-                           "countryIso2": "DE", "timezone": "Europe/Berlin", "rooms": rooms,
+                           "countryIso2": "DE", "timezone": ZONES[place], "rooms": rooms,
                            "extensions": []})
         return {"startDate": "2026-11-28", "numberOfDays": 3, "venues": venues}
 
@@ -173,6 +185,9 @@ class Competition:
                 other = numbers[(place * 7 + nth + 1) % len(numbers)]
                 made += [{"activityId": groups[other][0], "stationNumber": None,
                           "assignmentCode": self.chance.choice(HELP)}]
+        if place % 5 == 0:
+            made.append({"activityId": self.others[place // 5 % len(self.others)],
+                         "assignmentCode": OTHER[place // 5 % len(OTHER)], "stationNumber": None})
         self.chance.shuffle(made)
         return made
 

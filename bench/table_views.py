@@ -422,7 +422,8 @@ class Pages:
                     f"<td>{done} of {len(table.entrants)} done, {begun} in the middle</td>"
                     + "".join(f'<td><a href="{path}{where}">{words}</a></td>'
                               for path, words in links) + "</tr>\n")
-        out += '</tbody></table>\n<p><a href="/rounds">Open a round</a></p></section>\n'
+        out += ('</tbody></table>\n<p><a href="/rounds">Open a round</a> '
+                '<a href="/labels">Labels</a></p></section>\n')
         if self.file is not None:
             out += ('<section id="sending"><p><a href="/before">Before you send the results</a></p>'
                     "</section>\n")
@@ -850,9 +851,10 @@ class Pages:
 
     # ---- paper
 
-    def printed(self, kind, inside):
+    def printed(self, kind, inside, title=None):
         return ('<!DOCTYPE html>\n<html lang="en"><head><meta charset="utf-8">\n'
-                f'<title>{escaped(self.hall)}</title><link rel="stylesheet" href="/table.css">'
+                f'<title>{escaped(title or self.hall)}</title>'
+                '<link rel="stylesheet" href="/table.css">'
                 f'</head>\n<body class="{kind}"><main>\n{inside}</main></body></html>\n')
 
     def wall(self, what, which):
@@ -889,6 +891,16 @@ class Pages:
             out += "</section>\n"
         return self.printed("scorecards", out)
 
+    def labels(self):
+        out = ""
+        for who, name in sorted(self.meet.names.items()):
+            one = beside.person(self.file, who)
+            wca_id, country = (escaped(beside.text(one, key) or "")
+                               for key in ("wcaId", "countryIso2"))
+            out += (f'<p class="label"><b>{who}</b> <bdi>{escaped(name.decode())}</bdi> '
+                    f"<span>{wca_id} {country}</span></p>\n")
+        return self.printed("labels", out, "labels")
+
     @staticmethod
     def card_row(kind, heading):
         return f'<tr class="{kind}"><th scope="row">{heading}</th>' + 4 * "<td></td>" + "</tr>\n"
@@ -898,7 +910,7 @@ class Pages:
     def at(self, path):
         fixed = {"/": self.overview, "/people": self.people, "/refused": self.refused,
                  "/faults": self.faults, "/import": self.importing, "/preview": self.preview,
-                 "/before": self.before}
+                 "/before": self.before, "/labels": self.labels}
         if path in fixed:
             return fixed[path]()
         kind, _, rest = path.removeprefix("/").partition("/")

@@ -44,7 +44,9 @@ are at http://ADDR/at/17/333-1. All competitors are at http://ADDR/people, the r
 17 at http://ADDR/person/17, the first three of each final at http://ADDR/podiums, the log at
 http://ADDR/log.txt, and how the desks are at http://ADDR/status.json. ADDR is that of --listen.
 Where --wcif names the competition's file, those who are registered for 333 are at
-http://ADDR/psych/333 in order of the bests that it has. No other page depends on that file. A
+http://ADDR/psych/333 in order of the bests that it has, what is where and when at
+http://ADDR/schedule, what competitor 17 does at http://ADDR/today/17, and which results of a round
+are personal records by it at http://ADDR/records/333-1. No other page depends on that file. A
 newer file of the same competition at its path takes its place within seconds; where one is no
 competition's, or another's, the file before is kept, and standard error gets a line.
 It prints `board at ADDR` once it listens, and runs until it is stopped.
@@ -133,14 +135,6 @@ fn tell_listening<F: Write>(
     status
 }
 
-/// The competition's file at the path of `--wcif`, which a newer one may replace.
-fn renewed_of<'a>(rt: &HostRuntime, found: &ArgMatches<'a>) -> Option<RenewedFile<'a>> {
-    match found.get_str("wcif") {
-        Some(path) => Some(RenewedFile::new(rt, path)),
-        None => None,
-    }
-}
-
 /// Listens and serves until the system fails, and returns the status.
 fn run_order<W: Write, F: Write>(
     rt: &HostRuntime,
@@ -155,8 +149,9 @@ fn run_order<W: Write, F: Write>(
         listen,
         patience,
     } = order;
-    let mut renewed = renewed_of(rt, found);
-    let competition = match file_given(rt, found.get_str("wcif"), PROGRAM, faults) {
+    let wcif = found.get_str("wcif");
+    let mut renewed = RenewedFile::at(rt, wcif);
+    let competition = match file_given(rt, wcif, PROGRAM, faults) {
         Ok(competition) => competition,
         Err(status) => return status,
     };

@@ -37,7 +37,12 @@ pub(crate) fn place_text(alloc: Global, place: u16, values: &[Value]) -> Result<
 }
 
 /// The best value, or `-` where there is no attempt.
-fn best_text(alloc: Global, values: &[Value], best: Value, unit: Unit) -> Result<Vec<u8>, NoMemory>
+pub fn best_text(
+    alloc: Global,
+    values: &[Value],
+    best: Value,
+    unit: Unit,
+) -> Result<Vec<u8>, NoMemory>
     requires { best ≡ best_of values.now }
     ensures { IfOk result (λ text. text.items ≡ best_text unit values.now) }
 {

@@ -41,7 +41,7 @@ pub(crate) fn shown_round(meet: &Meet, id: RoundId) -> Option<BoardRound<'_>>
 }
 
 /// The name of a competitor; an entrant always has one.
-pub(crate) fn name_text(meet: &Meet, number: u16) -> &[u8]
+pub fn name_text(meet: &Meet, number: u16) -> &[u8]
     ensures { result.now ≡ name_text meet.now.accepted number }
 {
     match meet.name(number) {

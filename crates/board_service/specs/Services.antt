@@ -6,14 +6,14 @@ use Rattle.http.specs.{declared.request.Request.Request, Request.head_of}
 use Rattle.http_uri.specs.Uri.{uri_path}
 use Rattle.http1.specs.Fields.{Header}
 use Rattle.http_server.specs.{declared.response.Response.Response, Response.IsResponse}
+use Rattle.acceptor.specs.declared.entry.Entry.{Entry}
 use Rattle.markup.specs.declared.replies.page.Page.{Page}
 use Rattle.markup.specs.replies.Replies.{Replies, is_read, no_store}
-use Rattle.board_views.specs.Views.{IsPageAt}
+use Rattle.board_views.specs.{Rounds.accepted_in, Views.IsPageAt}
 use Rattle.kept_mirror.specs.Mirrorings.{MirroringOf, wait_of}
 use Rattle.hall_survey.specs.Halls.{HallDesksOf, IsStatus, ages_text, desks_wait}
 use Rattle.competition_file.specs.Files.{data_of}
-use Rattle.file_views.specs.Paths.{view_at}
-use Rattle.file_views.specs.Psych.{IsFilePage}
+use Rattle.file_views.specs.{Pages.IsFilePage, Paths.view_at}
 use Rattle.file_views.specs.declared.paths.FileView.{FileView}
 
 -- the title of the competition, the mirror with what keeps it up, the desks that are asked, the
@@ -88,11 +88,13 @@ if_read false view = None
 abbrev pub asks_file : Request (List ℕ) → Option FileView
 asks_file request = if_read (is_read (head_of request).method) (view_at (path_of request))
 
--- the page of the file, which nobody is to keep; the reply for none, where there is no file
-abbrev pub ShowsFile : List ℕ → Option (List ℕ) → FileView → Request (List ℕ) → Response → Type 0
-ShowsFile title None view request response = Replies request None response
-ShowsFile title (Some file) view request response =
-    (text : List ℕ) × IsFilePage title (data_of file) view text
+-- the page of the file beside the log, which nobody is to keep; the reply for none, where there is
+-- no file
+abbrev pub ShowsFile : List ℕ → Option (List ℕ) → List Entry → FileView → Request (List ℕ)
+    → Response → Type 0
+ShowsFile title None log view request response = Replies request None response
+ShowsFile title (Some file) log view request response =
+    (text : List ℕ) × IsFilePage title (data_of file) (accepted_in log) view text
     × IsResponse 200 (fields_of (codes "text/html; charset=utf-8")) text response
 
 -- ---- answers
@@ -100,7 +102,8 @@ ShowsFile title (Some file) view request response =
 -- a page of the file, where that is asked; else that of the list
 abbrev pub ShowsView : Option FileView → ServiceOf → Request (List ℕ) → Response → Type 0
 ShowsView None s request response = ShowsPage s request response
-ShowsView (Some view) s request response = ShowsFile s.title s.competition view request response
+ShowsView (Some view) s request response =
+    ShowsFile s.title s.competition s.mirroring.entries view request response
 
 -- how the desks are, or when they were heard, where that is asked; else the reply for a page
 abbrev pub ShowsBy : (status ages : Bool) → ServiceOf → Request (List ℕ) → Response → Type 0

@@ -1,7 +1,9 @@
 //! The service of the board.
 
 ghost use Rattle.std.specs.Prelude.{◌≡◌, IfErr, IfOk, OnErr, OnOk, string_bytes};
-ghost use Rattle.board_views.specs.Views.{IsPageAt};
+ghost use Rattle.board_views.specs.{Rounds.accepted_in, Views.IsPageAt};
+ghost use Rattle.competition_file.specs.Files.{data_of};
+ghost use Rattle.file_views.specs.Pages.{IsFilePage};
 ghost use Rattle.http_server.specs.Response.{IsBlank};
 ghost use Rattle.board_service.specs.Services.{ShowsAges, ShowsFile, ShowsPage, ShowsStatus};
 ghost use Rattle.board_service.specs.Services.{asks_ages, asks_file, asks_status, service};
@@ -22,6 +24,7 @@ use http::{HeaderValue, Request};
 use http_server::{Response, Service};
 use kept_mirror::Mirroring;
 use markup::replies::{Page, is_read, reply};
+use mirror::Mirror;
 use std::alloc::{AllocError, Global};
 use std::marker::Model;
 use std::net::Net;
@@ -51,6 +54,21 @@ fn asks_file(request: &Request<Bytes>) -> Option<FileView>
     } else {
         None
     }
+}
+
+/// A page of the competition's file, under its title, beside the log.
+fn file_page_beside(
+    alloc: Global,
+    mirror: &Mirror,
+    file: &CompetitionFile,
+    title: &[u8],
+    view: FileView,
+) -> Result<Vec<u8>, AllocError>
+    ensures { IfOk result (λ text.
+        IsFilePage title.now (data_of file.now) (accepted_in mirror.now) view text.items) }
+{
+    let text = file_page(alloc, file, mirror.meet(), title, view)?;
+    Ok(text)
 }
 
 /// Answers browsers with the pages of a mirror of a hall's log, and programs that ask how the desks
@@ -238,13 +256,15 @@ impl BoardService {
     ) -> Result<(), AllocError>
         requires { IsBlank response.old }
         ensures { OnOk result
-            (ShowsFile self.now.title self.now.competition view request.now response.new) }
+            (ShowsFile self.now.title self.now.competition self.now.mirroring.entries view
+            request.now response.new) }
     {
         let Some(file) = &self.competition else {
             reply(request, None, response)?;
             return Ok(());
         };
-        let text = file_page(self.alloc, file, self.title.as_bytes(), view)?;
+        let mirror = self.mirroring.mirror();
+        let text = file_page_beside(self.alloc, mirror, file, self.title.as_bytes(), view)?;
         send_status(
             HeaderValue::from_static("text/html; charset=utf-8"),
             text,

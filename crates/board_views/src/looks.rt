@@ -48,6 +48,11 @@ tr.yes > * { background: var(--through); }
 tr.would:not(:has(+ .would)) > * { border-bottom: .12em dashed currentColor; }
 tr.changed > * { background: var(--new); }
 tr.changed > th::after { content: \" \\2731\"; }
+th[data-country]::after { content: \" \" attr(data-country); font-size: .7em; font-weight: normal; }
+tr.changed > th[data-country]::after { content: \" \" attr(data-country) \" \\2731\"; }
+td.pr::before { content: \"PR \"; font-size: .6em; font-weight: normal; vertical-align: .4em; }
+.now { margin: 0; padding: .2em .8em; border-top: 1px solid var(--line); font-size: 2.4vmin; }
+.now:empty { display: none; }
 @media screen and (max-width: 600px) {
   main { padding: .3em; }
   body.all section { display: none; }
@@ -100,7 +105,8 @@ tr.changed > th::after { content: \" \\2731\"; }
   th, td { padding: .15em .3em; }
   td:last-child { font-size: .85em; }
   main { padding: 0; }
-  nav, .lost, .find { display: none; }
+  nav, .lost, .find, .now { display: none; }
+  section[id] tr th[data-country]::after, section[id] td.pr::before { content: none; }
   a { text-decoration: none; }
   section { break-after: page; }
   section:last-of-type { break-after: auto; }
@@ -123,6 +129,12 @@ tr.changed > th::after { content: \" \\2731\"; }
 /// are many, shorter. Of a long round as many lines are shown at once as there is room for, in the
 /// largest type with which they are on the screen. Names are searched without regard to
 /// accents and case.
+///
+/// Where the board has a competition's file, which `/schedule` shows, the script adds what the file
+/// says: links to its pages; in a round, the countries after the names, and `PR` at results that
+/// are personal records by the file, which it asks for once for each change of a round in sight;
+/// and, below the rounds on a projector, what runs now in each room and what comes next there.
+/// Where the board has none, it asks once, and adds nothing.
 const SCRIPT: &str = "\
 \"use strict\";
 const rows = (page) => [...page.querySelectorAll(\"section[id] tbody tr\")];
@@ -192,6 +204,8 @@ function fit() {
   style.fontSize = low + \"px\";
 }
 function show() {
+  addLinks();
+  markRecords();
   filter();
   if (!isHall) return;
   look();
@@ -231,6 +245,109 @@ if (document.querySelector(\".people\")) {
   document.body.prepend(find);
   find.addEventListener(\"input\", filter);
   find.querySelector(\"input\").focus();
+}
+let file = null;
+const records = new Map(), asked = new Map();
+async function pageAt(path) {
+  const answer = await fetch(path, { cache: \"no-cache\", signal: within(20000) });
+  if (answer.status === 404) return null;
+  if (!answer.ok) throw new Error(path);
+  return new DOMParser().parseFromString(await answer.text(), \"text/html\");
+}
+function link(path, words) {
+  const nav = document.querySelector(\"nav\"), it = document.createElement(\"a\");
+  const isIt = (other) => other.getAttribute(\"href\") === path;
+  if (!nav || [...nav.children].some(isIt)) return;
+  it.setAttribute(\"href\", path);
+  it.textContent = words;
+  nav.append(it);
+}
+function addLinks() {
+  if (!file) return;
+  const [, number] = /^[/]person[/](\\d+)$/.exec(location.pathname) || [];
+  const { id } = document.querySelector(\"section[id]\") || {};
+  link(\"/schedule\", \"schedule\");
+  if (number) link(\"/today/\" + number, \"today\");
+  if (id && location.pathname === \"/\" + id) {
+    link(\"/psych/\" + id.replace(/-\\d+$/, \"\"), \"psych sheet\");
+  }
+}
+function markRecords() {
+  for (const row of rows(document)) {
+    const found = records.get(row.closest(\"section\").id);
+    const it = found && found.get(row.cells[1].textContent);
+    if (!it) continue;
+    row.cells[2].dataset.country = it.cells[1].textContent;
+    for (const at of [3, 4]) {
+      const cell = row.cells[at], its = it.cells[7 - at];
+      const is = its.className === \"pr\" && its.textContent === cell.textContent;
+      cell.classList.toggle(\"pr\", is);
+      cell.title = is ? \"personal record by the competition's file\" : \"\";
+    }
+  }
+}
+const inSight = (section) => {
+  const { top, bottom } = section.getBoundingClientRect();
+  return bottom > Math.max(top, 0) && top < innerHeight;
+};
+async function askRecords(section) {
+  const { id } = section, { textContent } = section.querySelector(\"tbody\");
+  if (asked.get(id) === textContent) return;
+  asked.set(id, textContent);
+  const page = await pageAt(\"/records/\" + id).catch(() => null);
+  if (!page) return;
+  const found = [...page.querySelectorAll(\"tr[data-number]\")];
+  records.set(id, new Map(found.map((row) => [row.dataset.number, row])));
+  markRecords();
+  if (isHall) fit();
+}
+const apart = (text) => \"\\u2068\" + text + \"\\u2069\";
+function clockOf(time, timeZone) {
+  try {
+    const parts = { timeZone, hour: \"2-digit\", minute: \"2-digit\" };
+    return new Date(time).toLocaleTimeString(\"en-GB\", parts) + \" \";
+  } catch (error) {
+    return \"\";
+  }
+}
+function nowWords(now) {
+  const runs = [], comes = [];
+  for (const table of file.querySelectorAll(\"table[data-room]\")) {
+    const { room, zone } = table.dataset, where = \" (\" + apart(room) + \")\";
+    const all = [...table.querySelectorAll(\"tr[data-start]\")].map(({ dataset }) =>
+      ({ what: dataset.what, start: Date.parse(dataset.start), end: Date.parse(dataset.end) }));
+    const run = all.filter(({ start, end }) => start <= now && now < end).pop();
+    const later = all.filter(({ start }) => start > now && start < now + 86400000);
+    const first = Math.min(...later.map(({ start }) => start));
+    const next = later.filter(({ start }) => start === first).pop();
+    if (run) runs.push(apart(run.what) + where);
+    if (next) comes.push(clockOf(first, zone) + apart(next.what) + where);
+  }
+  const said = [[\"now: \", runs], [\"next: \", comes]].filter(([, them]) => them.length > 0);
+  return said.map(([when, them]) => when + them.join(\", \")).join(\"; \");
+}
+const foot = document.createElement(\"p\");
+foot.className = \"now\";
+function keepBeside() {
+  if (!file || document.hidden) return;
+  [...document.querySelectorAll(\"section[id]\")].filter(inSight).forEach(askRecords);
+  const text = isHall ? nowWords(Date.now()) : \"\";
+  if (foot.textContent === text) return;
+  foot.textContent = text;
+  document.body.append(foot);
+  fit();
+}
+async function askFile() {
+  if (document.hidden && file) return;
+  try {
+    file = await pageAt(\"/schedule\");
+  } catch (error) {
+    return;
+  }
+  if (!file) return clearInterval(askingFile);
+  asked.clear();
+  addLinks();
+  keepBeside();
 }
 let last = null, since = null, good = new Date();
 const bar = document.createElement(\"p\");
@@ -276,13 +393,13 @@ function replace(page) {
   const held = scrollY > 0 ? anchor(page) : null;
   mark(main(), page);
   main().replaceWith(page);
+  show();
   if (focused) {
     const isIt = (link) => link.getAttribute(\"href\") === focused;
     const again = [...page.querySelectorAll(\"a\")].find(isIt);
     if (again) again.focus({ preventScroll: true });
   }
   if (held) scrollBy(0, held[0].getBoundingClientRect().top - held[1]);
-  show();
 }
 const within = (time) => (AbortSignal.timeout ? AbortSignal.timeout(time) : undefined);
 async function update() {
@@ -311,10 +428,13 @@ async function update() {
 }
 setInterval(update, 500);
 setInterval(unmark, 500);
+setInterval(keepBeside, 1000);
+const askingFile = setInterval(askFile, 60000);
 if (isHall) setTimeout(turn, seconds * 1000);
 addEventListener(\"resize\", show);
 addEventListener(\"visibilitychange\", update);
 show();
+askFile();
 ";
 
 /// The style of all pages.

@@ -1,35 +1,54 @@
 -- The first item that gives anything, as a loop comes to it, and the groups one level down.
 use Rattle.std.proofs.Common.{◌≡◌, ◌<◌, ◌-◌, ◌+◌, ℕ, zero, suc, List, map, length, get_or, drop}
-use Rattle.std.proofs.Common.{Option, None, Some, Bool, true, false, is_some, cond, flat_map, refl}
+use Rattle.std.proofs.Common.{◌∷◌, Option, None, Some, Bool, true, false, is_some, cond, flat_map, refl}
 use Rattle.std.proofs.Common.{ap, sym, ◌∙◌, arith, add-one}
-use Rattle.std.specs.Prelude.{find, ◌≢◌}
+use Rattle.std.specs.Prelude.{find, ◌≢◌, filter_map, slice_get}
+use Rattle.std.specs.{List.cons_option, Option.option_or}
 use Rattle.std.proofs.Math.Seq.{drop-cons}
 use Rattle.std.proofs.lemmas.Bool.{false≢true}
 use Rattle.serde_json.specs.Data.{Data}
 use Rattle.serde_json.specs.View.{view}
 use Rattle.serde_json.specs.declared.value.Value.{Value}
 use Rattle.competition_file.specs.Groups.{groups_down, level_name}
-use Rattle.competition_file.specs.Items.{first_some, this_or, items_under}
+use Rattle.competition_file.specs.Items.{items_under}
 
-pub or_this : {B : Type 0} (o later : Option B) → is_some o ≡ true → this_or o later ≡ o
-or_this None later some = absurd (false≢true some)
-or_this (Some b) later some = refl
+-- what the first of these values gives that gives anything
+abbrev pub first : {B : Type 0} → (Data → Option B) → List Value → Option B
+first f vs = slice_get (filter_map f (map view vs)) 0
 
-pub or_later : {B : Type 0} (o later : Option B) → is_some o ≡ false → this_or o later ≡ later
-or_later None later none = refl
-or_later (Some b) later none = absurd (false≢true (sym none))
+this_or : {B : Type 0} (o : Option B) (later : List B)
+    → slice_get (cons_option o later) 0 ≡ option_or o (slice_get later 0)
+this_or None later = refl
+this_or (Some b) later = refl
 
 -- the items from a place on
-pub at_item : {B : Type 0} (f : Data → Option B) (vs : List Value) (i : ℕ) (v : Value)
-    → i < length vs → v ≡ get_or vs i v
-    → first_some f (map view (drop i vs))
-    ≡ this_or (f (view v)) (first_some f (map view (drop (i + 1) vs)))
-at_item f vs i v within is =
-    ap (λ ws. first_some f (map view ws)) (drop-cons vs i v within)
-    ∙ ap (λ w. this_or (f (view w)) (first_some f (map view (drop (suc i) vs)))) (sym is)
-    ∙ ap (λ (k : ℕ). this_or (f (view v)) (first_some f (map view (drop k vs)))) (sym (add-one i))
+at_item : {B : Type 0} (f : Data → Option B) (vs : List Value) (i : ℕ) (v : Value) (o : Option B)
+    → i < length vs → v ≡ get_or vs i v → o ≡ f (view v)
+    → option_or o (first f (drop (i + 1) vs)) ≡ first f (drop i vs)
+at_item f vs i v o within is gives =
+    sym
+    (ap (first f) (drop-cons vs i v within)
+    ∙ ap (λ w. first f (w ∷ drop (suc i) vs)) (sym is)
+    ∙ this_or (f (view v)) (filter_map f (map view (drop (suc i) vs)))
+    ∙ ap (λ p. option_or p (first f (drop (suc i) vs))) (sym gives)
+    ∙ ap (λ (k : ℕ). option_or o (first f (drop k vs))) (sym (add-one i)))
 
--- the same of the first that passes
+-- an item that gives nothing is passed over
+pub passed : {B : Type 0} (f : Data → Option B) (vs : List Value) (i : ℕ) (v : Value) (o : Option B)
+    → i < length vs → v ≡ get_or vs i v → o ≡ f (view v) → is_some o ≡ false
+    → first f (drop (i + 1) vs) ≡ first f (drop i vs)
+passed f vs i v None within is gives none = at_item f vs i v None within is gives
+passed f vs i v (Some b) within is gives none = absurd (false≢true (sym none))
+
+-- one that gives something is the first
+pub found_first : {B : Type 0} (f : Data → Option B) (vs : List Value) (i : ℕ) (v : Value)
+    (o : Option B)
+    → i < length vs → v ≡ get_or vs i v → o ≡ f (view v) → is_some o ≡ true
+    → o ≡ first f (drop i vs)
+found_first f vs i v None within is gives some = absurd (false≢true some)
+found_first f vs i v (Some b) within is gives some = at_item f vs i v (Some b) within is gives
+
+-- the first item that passes, from a place on
 pub found_at : (p : Data → Bool) (vs : List Value) (i : ℕ) (v : Value)
     → i < length vs → v ≡ get_or vs i v
     → find p (map view (drop i vs))

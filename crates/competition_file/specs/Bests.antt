@@ -1,5 +1,6 @@
 -- Personal bests in the WCA Competition Interchange Format (its PersonalBest).
 use Rattle.std.specs.Prelude.{ℕ, ◌&&◌, Bool, if◌then◌else◌, List, bytes_eq, codes, Option, None}
+use Rattle.std.specs.Prelude.{filter_map, slice_get}
 use Rattle.serde_json.specs.Data.{Data}
 use Rattle.formats.specs.declared.events.Event.{Event}
 use Rattle.formats.specs.Events.{event_name}
@@ -7,7 +8,7 @@ use Rattle.wcif.specs.Persons.{text_under}
 use Rattle.wcif.specs.Rounds.{number_within}
 use Rattle.competition_file.specs.declared.bests.ResultKind.{ResultKind}
 use Rattle.competition_file.specs.declared.bests.ResultKind.TheVariants.{Single, Average}
-use Rattle.competition_file.specs.Items.{first_some, items_under}
+use Rattle.competition_file.specs.Items.{items_under}
 
 abbrev pub kind_name : ResultKind → List ℕ
 kind_name Single = codes "single"
@@ -24,4 +25,4 @@ best_in e k d =
 
 -- the first number that the file has for a person's best of this kind in an event
 unfoldable pub best_of : Event → ResultKind → Data → Option ℕ
-best_of e k p = first_some (best_in e k) (items_under (codes "personalBests") p)
+best_of e k p = slice_get (filter_map (best_in e k) (items_under (codes "personalBests") p)) 0

@@ -2,6 +2,7 @@
 -- 333-r1-g2), and who competes in which (its Assignment).
 use Rattle.std.specs.Prelude.{ℕ, zero, suc, ◌==◌, Bool, if◌then◌else◌, List, ◌++◌, flat_map}
 use Rattle.std.specs.Prelude.{bytes_eq, codes, find, length, take, drop, Option, Some, None}
+use Rattle.std.specs.Prelude.{filter_map, slice_get}
 use Rattle.std.specs.Option.{option_and_then, option_map, option_to_list}
 use Rattle.serde_json.specs.Data.{Data}
 use Rattle.texts.specs.Fields.{cut, number_between}
@@ -11,7 +12,7 @@ use Rattle.wcif.specs.Persons.{text_under}
 use Rattle.wcif.specs.Rounds.{number_within, round_id}
 use Rattle.competition_file.specs.declared.groups.RoundGroup.{RoundGroup}
 use Rattle.competition_file.specs.declared.groups.Seat.{Seat}
-use Rattle.competition_file.specs.{Files.venues, Items.first_some, Items.items_under}
+use Rattle.competition_file.specs.{Files.venues, Items.items_under}
 
 -- the lists on the levels below a venue, counted from the groups
 abbrev pub level_name : ℕ → List ℕ
@@ -77,4 +78,5 @@ seat_in groups d =
 
 -- where a person competes: by the first assignment that says it
 unfoldable pub seat_of : List RoundGroup → Data → Option Seat
-seat_of groups p = first_some (seat_in groups) (items_under (codes "assignments") p)
+seat_of groups p =
+    slice_get (filter_map (seat_in groups) (items_under (codes "assignments") p)) 0

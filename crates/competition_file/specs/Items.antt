@@ -1,6 +1,5 @@
--- Lists of a value, by their names, and what the first item gives that gives anything (the
--- project's own).
-use Rattle.std.specs.Prelude.{ℕ, List, [], ◌∷◌, Option, Some, None, unwrap_or}
+-- Lists of a value, by their names (the project's own).
+use Rattle.std.specs.Prelude.{ℕ, List, [], Option, Some, None, unwrap_or}
 use Rattle.serde_json.specs.Data.{Data}
 use Rattle.wcif.specs.Members.{list_at}
 
@@ -12,11 +11,3 @@ items_under name d = unwrap_or (list_at name d) []
 abbrev pub items_of : List ℕ → Option Data → List Data
 items_of name None = []
 items_of name (Some d) = items_under name d
-
-abbrev pub this_or : {B : Type 0} → Option B → Option B → Option B
-this_or None later = later
-this_or (Some b) later = Some b
-
-abbrev pub first_some : {A B : Type 0} → (A → Option B) → List A → Option B
-first_some f [] = None
-first_some f (x ∷ xs) = this_or (f x) (first_some f xs)

@@ -6,3 +6,4 @@ pub mod Groups
 pub mod Duties
 pub mod Fields
 pub mod Limits
+pub mod Opening

@@ -13,7 +13,7 @@ mod numbers;
 mod opening;
 
 pub use bests::{ResultKind, best_of, kind_name};
-pub use duties::{Duty, has_duty};
+pub use duties::{Duty, GroupDuty, duties_of};
 pub use fields::field_best;
 pub use file::{CompetitionFile, RenewFault};
 pub use groups::{RoundGroup, Seat, round_groups, seat_of};

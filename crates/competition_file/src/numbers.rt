@@ -50,7 +50,7 @@ pub(crate) fn own_numbers(alloc: Global, persons: &[Value]) -> Result<Vec<Option
 }
 
 /// Whether a number is this one.
-pub(crate) fn is_number(number: u64, own: Option<u64>) -> bool
+fn is_number(number: u64, own: Option<u64>) -> bool
     ensures { result ≡ is_number number own }
 {
     match own {

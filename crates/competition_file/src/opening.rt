@@ -1,5 +1,9 @@
 //! The competition's file at a path, as the arguments of a program name it.
 
+ghost use Rattle.std.specs.Prelude.{◌≡◌, IfErr, IfOk, IsTrue, OnOk, option_map};
+ghost use Rattle.competition_file.specs.Opening.{IsCompetition, IsGiven, IsReadOf, IsRefused};
+ghost use Rattle.competition_file.specs.Opening.{is_of_reading, status_of};
+
 use crate::file::{CompetitionFile, RenewFault};
 use std::alloc::Global;
 use std::fs::Files;
@@ -50,15 +54,11 @@ impl fmt::Display for RenewFault {
     }
 }
 
-/// The bytes of the file at a path: all, or one more than a competition's file may have.
-///
-/// # Errors
-///
-/// `CannotRead`, and `Unread` with `NoMemory`.
-pub fn file_bytes<R: Files>(files: &R, alloc: Global, path: &str) -> Result<Vec<u8>, OpenFault> {
-    let Ok(file) = fs::open(files, path) else {
-        return Err(OpenFault::CannotRead);
-    };
+/// The bytes of an open file: all, or one more than a competition's file may have.
+fn bytes_in<F: Read + Drop>(alloc: Global, file: F) -> Result<Vec<u8>, OpenFault>
+    ensures read { IfOk result (λ bytes. IsReadOf (F.remaining file) bytes.items) }
+    ensures fault { IfErr result (λ fault. IsTrue (is_of_reading fault)) }
+{
     let mut bytes = Vec::new(alloc);
     match file.take(MOST_READ).read_to_end(&mut bytes) {
         Ok(_) => Ok(bytes),
@@ -69,7 +69,26 @@ pub fn file_bytes<R: Files>(files: &R, alloc: Global, path: &str) -> Result<Vec<
     }
 }
 
-fn open(rt: &HostRuntime, path: &str) -> Result<CompetitionFile, OpenFault> {
+/// The bytes of the file at a path: all, or one more than a competition's file may have.
+///
+/// # Errors
+///
+/// `CannotRead`, and `Unread` with `NoMemory`.
+pub fn file_bytes<R: Files>(files: &R, alloc: Global, path: &str) -> Result<Vec<u8>, OpenFault>
+    ensures read { IfOk result (λ bytes. (file : R.File) × IsReadOf (R.File.remaining file)
+        bytes.items) }
+    ensures fault { IfErr result (λ fault. IsTrue (is_of_reading fault)) }
+{
+    match fs::open(files, path) {
+        Ok(file) => bytes_in(alloc, file),
+        Err(_) => Err(OpenFault::CannotRead),
+    }
+}
+
+/// The competition's file at a path.
+fn open(rt: &HostRuntime, path: &str) -> Result<CompetitionFile, OpenFault>
+    ensures { IfOk result (λ file. IsCompetition file) }
+{
     let bytes = file_bytes(rt, rt.alloc(), path)?;
     match CompetitionFile::read(rt.alloc(), bytes) {
         Ok(file) if file.id().is_empty() => Err(OpenFault::NotCompetition),
@@ -79,7 +98,9 @@ fn open(rt: &HostRuntime, path: &str) -> Result<CompetitionFile, OpenFault> {
 }
 
 /// The status of a program that does not get its file: 5 where memory was refused, and else 3.
-fn status_of(fault: &OpenFault) -> u8 {
+fn status_of(fault: &OpenFault) -> u8
+    ensures { result ≡ status_of fault.now }
+{
     match fault {
         OpenFault::Unread(FileFault::NoMemory) => 5,
         _ => 3,
@@ -97,7 +118,11 @@ pub fn file_given<F: Write>(
     path: Option<&str>,
     program: &str,
     faults: &mut F,
-) -> Result<Option<CompetitionFile>, u8> {
+) -> Result<Option<CompetitionFile>, u8>
+    ensures given { IfOk result (IsGiven (option_map (λ path. path.now) path.entry)) }
+    ensures silent { OnOk result (faults.new ≡ faults.old) }
+    ensures refused { IfErr result (IsRefused (option_map (λ path. path.now) path.entry)) }
+{
     let Some(path) = path else {
         return Ok(None);
     };

@@ -1,13 +1,14 @@
 -- Who answers, by what is said in pieces.
 use Rattle.std.proofs.Common.{◌≡◌, ◌<◌, ◌≤◌, ◌-◌, ◌+◌, ℕ, ltb, eqb, min, Bool, true, false, not}
 use Rattle.std.proofs.Common.{◌||◌, List, [], ◌++◌, length, take, get_or, Option, Some, None, refl}
-use Rattle.std.proofs.Common.{sym, ap, ◌∙◌, ◌≢◌, arith, append_assoc, eq-eqb, ne_eqb}
+use Rattle.std.proofs.Common.{sym, ap, ◌∙◌, ◌≢◌, inl, arith, append_assoc, eq-eqb, ne_eqb}
 use Rattle.std.proofs.lemmas.Bool.{ltb-true, ltb-false, lt-ltb, le-ltb}
 use Rattle.std.proofs.lemmas.List.{append-nil, take_all, take_min, take-append-le}
 use Rattle.std.proofs.lemmas.{List.length-take, Nat.from_be_bytes-to_be_bytes_4}
 use Rattle.std.proofs.Math.Seq.{take-append-add}
 use Rattle.wire.specs.{Ranges.IsFrame, Spelling.spelling, declared.frame.Frame.Frame}
-use Rattle.desk_sockets.specs.declared.asking.AskedPeer.{AskedPeer}
+use Rattle.sealed.specs.ends.ClientStreams.{ClientStreamOf}
+use Rattle.desk_sockets.specs.{Said.IsSaid, declared.asking.AskedPeer.AskedPeer}
 use Rattle.desk_sockets.specs.Answering.{AnsweringOf, Hands, Hears, answering, fronted, hall_in}
 use Rattle.desk_sockets.specs.Answering.{heard, is_foreign, judged}
 
@@ -186,20 +187,25 @@ heard_both s m a = both_by s m a (ltb (length a.front) 10) refl
 
 -- ---- what was handed on with it
 
-pub hands_none : {xs : List ℕ} {a : AnsweringOf} → Hands xs xs a a
-hands_none {xs} {a} =
-    record { said = []; handed = sym (append-nil xs); who = sym (heard_none a) }
+said_none : {S : Type 0} (remaining : S → Option (List ℕ)) (call : Option ClientStreamOf)
+    → IsSaid remaining call []
+said_none remaining None = refl
+said_none remaining (Some c) = inl refl
 
-pub hands_both : {x y z : List ℕ} {a b c : AnsweringOf} → Hands x y a b → Hands y z b c
-    → Hands x z a c
-hands_both {x} {y} {z} {a} {b} {c} h k = record {
-  said = h.said ++ k.said;
-  handed = k.handed ∙ ap (λ (w : List ℕ). w ++ k.said) h.handed ∙ append_assoc x h.said k.said;
-  who = k.who ∙ ap (heard k.said) h.who ∙ heard_both h.said k.said a;
+pub hands_none : {S : Type 0} {remaining : S → Option (List ℕ)} {call : Option ClientStreamOf}
+    {xs : List ℕ} {a : AnsweringOf} → Hands remaining call xs xs a a
+hands_none {remaining = remaining} {call} {xs} {a} = record {
+  said = [];
+  read = said_none remaining call;
+  handed = sym (append-nil xs);
+  who = sym (heard_none a);
 }
 
-pub hears_nothing : {a : AnsweringOf} → Hears a a
-hears_nothing {a} = record { said = []; who = sym (heard_none a) }
+pub hears_nothing : {S : Type 0} {remaining : S → Option (List ℕ)} {call : Option ClientStreamOf}
+    {a : AnsweringOf} → Hears remaining call a a
+hears_nothing {remaining = remaining} {call} {a} =
+    record { said = []; read = said_none remaining call; who = sym (heard_none a) }
 
-pub hears_these : {xs ys : List ℕ} {a b : AnsweringOf} → Hands xs ys a b → Hears a b
-hears_these h = record { said = h.said; who = h.who }
+pub hears_these : {S : Type 0} {remaining : S → Option (List ℕ)} {call : Option ClientStreamOf}
+    {xs ys : List ℕ} {a b : AnsweringOf} → Hands remaining call xs ys a b → Hears remaining call a b
+hears_these h = record { said = h.said; read = h.read; who = h.who }

@@ -1,8 +1,9 @@
 -- Who answers at the address of a desk, by what is said there first (the project's own).
-use Rattle.std.specs.Prelude.{◌≡◌, ℕ, ◌==◌, ◌||◌, not, nat_lt, Bool, false, if◌then◌else◌}
+use Rattle.std.specs.Prelude.{◌≡◌, ◌⊎◌, ℕ, ◌==◌, ◌||◌, not, nat_lt, Bool, false, if◌then◌else◌}
 use Rattle.std.specs.Prelude.{List, [], ◌∷◌, ◌++◌, length, take, slice_index, Option, None, Some}
 use Rattle.std.specs.Int.{w32, from_be_bytes}
-use Rattle.desk_sockets.specs.declared.asking.AskedPeer.{AskedPeer}
+use Rattle.sealed.specs.ends.ClientStreams.{ClientStreamOf, Receives}
+use Rattle.desk_sockets.specs.{Said.IsSaid, declared.asking.AskedPeer.AskedPeer}
 
 -- who is asked, if somebody is; the first bytes that were said on the connection, at most ten;
 -- whether the right desk has answered since it could not be reached; and whether another hall or
@@ -58,12 +59,30 @@ abbrev pub forgotten : AnsweringOf → AnsweringOf
 forgotten a = record a { known = false }
 
 -- this was said, and handed on after what was handed on before
-pub record Hands (before after : List ℕ) (old new : AnsweringOf) : Type 0 where
+pub record Hands {S : Type 0} (remaining : S → Option (List ℕ)) (call : Option ClientStreamOf)
+    (before after : List ℕ) (old new : AnsweringOf) : Type 0 where
   pub said : List ℕ
+  pub read : IsSaid remaining call said
   pub handed : after ≡ before ++ said
   pub who : new ≡ heard said old
 
--- something was said, which nobody is told
-pub record Hears (old new : AnsweringOf) : Type 0 where
+-- this was said, which nobody is told
+pub record Hears {S : Type 0} (remaining : S → Option (List ℕ)) (call : Option ClientStreamOf)
+    (old new : AnsweringOf) : Type 0 where
   pub said : List ℕ
+  pub read : IsSaid remaining call said
   pub who : new ≡ heard said old
+
+-- a piece came, and this was said by it, and handed on
+pub record Says (piece : List ℕ) (call later : ClientStreamOf) (before after : List ℕ)
+    (old new : AnsweringOf) : Type 0 where
+  pub said : List ℕ
+  pub receives : Receives piece call later said
+  pub handed : after ≡ before ++ said
+  pub who : new ≡ heard said old
+
+-- so it was, or nothing is handed on
+abbrev pub SaysOrNot : List ℕ → (call later : ClientStreamOf) → (before after : List ℕ)
+    → (old new : AnsweringOf) → Type 0
+SaysOrNot piece call later before after old new =
+    Says piece call later before after old new ⊎ ((after ≡ before) × (new ≡ old))

@@ -1,7 +1,8 @@
 -- What a contract sees of the connection to a desk (the project's own).
 use Rattle.std.specs.Prelude.{◌≡◌, Option, List, ℕ, [], None, Bool, true, false}
 use Rattle.sealed.specs.declared.ends.trouble.CallTrouble.{CallTrouble}
-use Rattle.desk_sockets.specs.{Keying.KeysOf, Troubles.confirmed}
+use Rattle.sealed.specs.ends.ClientStreams.{ClientStreamOf}
+use Rattle.desk_sockets.specs.{Keying.KeysOf, Said.IsSaid, Troubles.confirmed}
 use Rattle.desk_sockets.specs.Answering.{AnsweringOf, forgotten, heard}
 use Rattle.desk_sockets.specs.declared.desk_connection.ConnectionOutcome.{ConnectionOutcome}
 use Rattle.desk_sockets.specs.declared.desk_connection.ConnectionTrouble.{ConnectionTrouble}
@@ -11,7 +12,8 @@ use Rattle.desk_sockets.specs.declared.desk_connection.ConnectionTrouble.TheVari
 use Rattle.desk_sockets.specs.declared.desk_connection.Opening.TheVariants as opening_is
 
 -- the keys, whether the next connection is under the former one, what went wrong last, what is
--- wrong with the keys, what the last connection that ended told of that, and who answers
+-- wrong with the keys, what the last connection that ended told of that, who answers, and the
+-- caller's end of the connection, where there is one
 pub record ConnectionOf : Type 0 where
   pub keys : KeysOf
   pub turned : Bool
@@ -19,16 +21,18 @@ pub record ConnectionOf : Type 0 where
   pub trouble : Option CallTrouble
   pub suspected : Option CallTrouble
   pub who : AnsweringOf
+  pub call : Option ClientStreamOf
 
 abbrev pub connection : KeysOf → Bool → ConnectionTrouble → (trouble suspected : Option CallTrouble)
-    → AnsweringOf → ConnectionOf
-connection keys turned last trouble suspected who = record {
+    → AnsweringOf → Option ClientStreamOf → ConnectionOf
+connection keys turned last trouble suspected who call = record {
   keys = keys;
   turned = turned;
   last = last;
   trouble = trouble;
   suspected = suspected;
   who = who;
+  call = call;
 }
 
 -- nothing was connected yet
@@ -57,8 +61,10 @@ who_at opening_is.Later a = a
 who_at opening_is.Open a = a
 
 -- something may be said while it is being opened
-abbrev pub IsWhoAt : Opening → (old new : AnsweringOf) → Type 0
-IsWhoAt o old new = (said : List ℕ) × (new ≡ who_at o (heard said old))
+abbrev pub IsWhoAt : {S : Type 0} → (S → Option (List ℕ)) → Option ClientStreamOf → Opening
+    → (old new : AnsweringOf) → Type 0
+IsWhoAt remaining call o old new =
+    (said : List ℕ) × IsSaid remaining call said × (new ≡ who_at o (heard said old))
 
 -- nor after it broke by its keys
 abbrev pub who_by : ConnectionTrouble → AnsweringOf → AnsweringOf

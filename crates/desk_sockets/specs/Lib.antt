@@ -4,3 +4,5 @@ pub mod Keying
 pub mod Connections
 pub mod Wires
 pub mod Asking
+pub mod Endings
+pub mod Said

@@ -183,19 +183,6 @@ fn write<W: DeskConnection, D: Dialogue>(wire: &mut W, dialogue: &mut D)
     }
 }
 
-/// Writes what wasn't taken before, and what came to be written since.
-fn write_rest<W: DeskConnection, D: Dialogue>(wire: &mut W, dialogue: &mut D)
-    ensures keys { W.keys wire.new ≡ W.keys wire.old }
-    ensures held { D.held dialogue.new ≡ D.held dialogue.old }
-    ensures went { (addresses : List (Option SocketAddr))
-        → Drives D.leads D.phase D.output addresses dialogue.old dialogue.new []
-        (W.wired wire.old) (W.wired wire.new) }
-{
-    if let ConnectionPhase::Open = dialogue.phase() {
-        write(wire, dialogue);
-    }
-}
-
 /// Closes the connection that there was before, if there was one.
 fn clear<W: DeskConnection>(wire: &mut W, before: ConnectionPhase)
     ensures keys { W.keys wire.new ≡ W.keys wire.old }
@@ -286,29 +273,6 @@ fn fulfil_all<W: DeskConnection, D: Dialogue>(
     true
 }
 
-/// Looks at the connection of a dialogue, writes what is left, and fulfils what is to be done.
-/// Whether what it holds has changed, and whether the hall is broken.
-fn drive<W: DeskConnection, D: Dialogue>(
-    wire: &mut W,
-    dialogue: &mut D,
-    addresses: &[Option<SocketAddr>],
-    now: u64,
-) -> (bool, bool)
-    ensures keys { W.keys wire.new ≡ W.keys wire.old }
-    ensures held { result.0 ≡ false → D.held dialogue.new ≡ D.held dialogue.old }
-    ensures went { Reaches D.leads dialogue.old dialogue.new }
-    ensures told { Keeps D.leads D.phase D.output addresses.now dialogue.old dialogue.new
-        (W.wired wire.old) (W.wired wire.new) }
-    ensures asked { AsksNow D.leads now dialogue.old dialogue.new }
-    ensures rests { AsksLast D.leads now dialogue.old dialogue.new }
-{
-    wire.end_closed(now);
-    let changed = look(wire, dialogue, now);
-    write_rest(wire, dialogue);
-    let whole = fulfil_all(wire, dialogue, addresses, now);
-    (changed, !whole)
-}
-
 impl<W: DeskConnection> DialogueStream<W> {
     /// Does all for a dialogue that can be done now, at this many milliseconds of a clock that
     /// doesn't go back, without waiting. It is to be called again once the socket is ready, or the
@@ -324,10 +288,14 @@ impl<W: DeskConnection> DialogueStream<W> {
         ensures asked { AsksNow D.leads now dialogue.old dialogue.new }
         ensures rests { AsksLast D.leads now dialogue.old dialogue.new }
     {
-        match drive(&mut self.wire, dialogue, &self.addresses, now) {
-            (_, true) => DialogueChange::Broken,
-            (true, false) => DialogueChange::Changed,
-            (false, false) => DialogueChange::Same,
+        self.wire.end_closed(now);
+        let changed = look(&mut self.wire, dialogue, now);
+        write(&mut self.wire, dialogue);
+        let whole = fulfil_all(&mut self.wire, dialogue, &self.addresses, now);
+        match (whole, changed) {
+            (false, _) => DialogueChange::Broken,
+            (true, true) => DialogueChange::Changed,
+            (true, false) => DialogueChange::Same,
         }
     }
 }

@@ -1,8 +1,10 @@
 //! A connection to a desk, with a key or without one.
 
-ghost use Rattle.std.specs.Prelude.{◌≡◌, ◌≢◌, ◌≤◌, [], is_some, length, true, IfOk};
+ghost use Rattle.std.specs.Prelude.{◌≡◌, ◌≢◌, ◌≤◌, [], is_some, length, true, IfOk, Some, IsFalse};
+ghost use Rattle.std.specs.Prelude.{IsTrue};
 ghost use Rattle.sealed.specs.ends.ClientStreams.{own_key};
-ghost use Rattle.desk_sockets.specs.{Answering.Hands, Answering.Hears, Troubles.fits};
+ghost use Rattle.desk_sockets.specs.Answering.{Hands, Hears, Says, SaysOrNot};
+ghost use Rattle.desk_sockets.specs.Troubles.{fits};
 ghost use Rattle.desk_sockets.specs.declared.desk_connection.ConnectionTrouble.TheVariants as trouble_is;
 
 use crate::asking::{Answering, AskedPeer, question};
@@ -71,7 +73,8 @@ impl<S: CallerSocket> KeyedStream<S> {
 
     /// Writes what is to be sent, and says whether all of it was taken. No call waits.
     pub(crate) fn send(&mut self) -> io::Result<bool>
-        ensures { own_key self.new.call ≡ own_key self.old.call }
+        ensures key { own_key self.new.call ≡ own_key self.old.call }
+        ensures sent { self.new.call ≡ record self.old.call { output = self.new.call.output } }
     {
         for _write in 0..MOST_CALLS {
             let output = self.call.output();
@@ -136,7 +139,11 @@ impl<S: CallerSocket> KeyedStream<S> {
     /// answers. False: it doesn't fit under the key, or memory was refused.
     fn take(&mut self, piece: &[u8], answering: &mut Answering, handed: &mut Vec<u8>) -> bool
         ensures key { own_key self.new.call ≡ own_key self.old.call }
-        ensures hands { Hands handed.old.items handed.new.items answering.old answering.new }
+        ensures socket { self.new.socket ≡ self.old.socket }
+        ensures says { IsTrue result → Says piece.now self.old.call self.new.call
+            handed.old.items handed.new.items answering.old answering.new }
+        ensures ends { IsFalse result → SaysOrNot piece.now self.old.call self.new.call
+            handed.old.items handed.new.items answering.old answering.new }
     {
         let Ok(more) = self.call.receive(piece) else {
             return false;
@@ -151,7 +158,8 @@ impl<S: CallerSocket> KeyedStream<S> {
     /// Reads what comes from a desk, and hands on what it said. No call waits.
     fn read(&mut self, answering: &mut Answering, handed: &mut Vec<u8>) -> ConnectionOutcome
         ensures key { own_key self.new.call ≡ own_key self.old.call }
-        ensures hands { Hands handed.old.items handed.new.items answering.old answering.new }
+        ensures hands { Hands S.remaining (Some self.old.call) handed.old.items handed.new.items
+            answering.old answering.new }
     {
         let mut piece = [0; 4096];
         for _read in 0..MOST_CALLS {
@@ -179,7 +187,8 @@ impl<S: CallerSocket> KeyedStream<S> {
     ) -> (ConnectionOutcome, Option<CallTrouble>)
         ensures key { own_key self.new.call ≡ own_key self.old.call }
         ensures fits { fits (is_some (own_key self.old.call)) result.1 ≡ true }
-        ensures hands { Hands handed.old.items handed.new.items answering.old answering.new }
+        ensures hands { Hands S.remaining (Some self.old.call) handed.old.items handed.new.items
+            answering.old answering.new }
     {
         let outcome = self.read(answering, handed);
         match (self.call.trouble(), outcome) {
@@ -198,7 +207,7 @@ impl<S: CallerSocket> KeyedStream<S> {
         doubted: bool,
     ) -> Result<(), ConnectionTrouble>
         ensures key { own_key self.new.call ≡ own_key self.old.call }
-        ensures who { Hears answering.old answering.new }
+        ensures who { Hears S.remaining (Some self.old.call) answering.old answering.new }
     {
         if !doubted {
             return Ok(());
@@ -207,6 +216,11 @@ impl<S: CallerSocket> KeyedStream<S> {
         let mut handed = Vec::new(alloc);
         let (outcome, told) = self.hear(answering, &mut handed);
         begun_by(outcome, told, asks)
+    }
+
+    /// Whether something can be given, and it is known who answers where that is doubted.
+    fn counts_as_open(&self, answering: &Answering, doubted: bool) -> bool {
+        self.call.is_open() && (!doubted || answering.is_told())
     }
 
     /// Whether the connection is open, once it is there, or what went wrong. It is asked who
@@ -218,7 +232,7 @@ impl<S: CallerSocket> KeyedStream<S> {
         doubted: bool,
     ) -> Result<bool, ConnectionTrouble>
         ensures key { own_key self.new.call ≡ own_key self.old.call }
-        ensures who { Hears answering.old answering.new }
+        ensures who { Hears S.remaining (Some self.old.call) answering.old answering.new }
     {
         match self.socket.connected() {
             Ok(()) => {}
@@ -235,7 +249,7 @@ impl<S: CallerSocket> KeyedStream<S> {
         if !answering.is_known() {
             self.ask(alloc, asking)?;
         }
-        Ok(self.call.is_open() && (!doubted || answering.is_told()))
+        Ok(self.counts_as_open(answering, doubted))
     }
 
     /// Goes on with what is to be sent, and reads what comes.
@@ -246,7 +260,8 @@ impl<S: CallerSocket> KeyedStream<S> {
     ) -> (ConnectionOutcome, Option<CallTrouble>)
         ensures key { own_key self.new.call ≡ own_key self.old.call }
         ensures fits { fits (is_some (own_key self.old.call)) result.1 ≡ true }
-        ensures hands { Hands handed.old.items handed.new.items answering.old answering.new }
+        ensures hands { Hands S.remaining (Some self.old.call) handed.old.items handed.new.items
+            answering.old answering.new }
     {
         if self.send().is_err() {
             return (ConnectionOutcome::Broke, None);

@@ -15,8 +15,8 @@ ghost use Rattle.sealed.specs.ends.ClientStreams.{own_key};
 ghost use Rattle.desk_sockets.specs.Answering.{Hands, Hears, forgotten, heard, unknown};
 ghost use Rattle.desk_sockets.specs.Connections.{IsFresh, IsWhoAt, Notes, who_at, who_begun};
 ghost use Rattle.desk_sockets.specs.Keying.{IsKeyOf, keys_of, next_key, turned_at, turned_by};
-ghost use Rattle.desk_sockets.specs.{Connections.who_in, Keying.turned_in, Troubles.confirmed};
-ghost use Rattle.desk_sockets.specs.Troubles.{fits};
+ghost use Rattle.desk_sockets.specs.{Connections.who_in, Keying.turned_in, Said.IsSaid};
+ghost use Rattle.desk_sockets.specs.Troubles.{confirmed, fits};
 
 use crate::asking::{Answering, AskedPeer};
 use crate::desk_connection::{
@@ -52,8 +52,8 @@ pub struct CallingDesk {
 /// mixed with the numbers of the desk's start, if it is one, and of the connection.
 ///
 /// A contract sees the keys, whether the next connection is under the one before, what went wrong
-/// last, what is wrong with the keys, what the last connection that ended said of that, and who
-/// answers.
+/// last, what is wrong with the keys, what the last connection that ended said of that, who
+/// answers, and the caller's end of the connection, where there is one.
 #[derive(Drop)]
 pub struct SocketConnection<C: Connector> {
     connector: C,
@@ -114,17 +114,17 @@ fn confirmed(
 }
 
 impl<C: Connector> Model for SocketConnection<C> {
-    ghost use Rattle.std.specs.Prelude.{◌≡◌, is_some, true, None};
+    ghost use Rattle.std.specs.Prelude.{◌≡◌, is_some, option_map, true, None};
     ghost use Rattle.std.specs.Option.{ForSome};
     ghost use Rattle.sealed.specs.ends.ClientStreams.{own_key};
     ghost use Rattle.desk_sockets.specs.Connections.{ConnectionOf, connection};
     ghost use Rattle.desk_sockets.specs.Keying.{IsKeyOf, keys_of};
-    ghost use Rattle.desk_sockets.specs.Troubles.{fits};
+    ghost use Rattle.desk_sockets.specs.Troubles.{confirmed, fits};
 
     ghost Value = { ConnectionOf };
 
     ghost view = { λ c. connection (keys_of c.key c.former) c.turned c.last c.trouble c.suspected
-        c.answering };
+        c.answering (option_map (λ s. s.call) c.stream) };
 
     ghost invariant = { λ c. ForSome c.stream
         (λ s. IsKeyOf (keys_of c.key c.former) (own_key s.call))
@@ -307,8 +307,9 @@ impl<C: Connector> SocketConnection<C> {
 
     /// Whether the connection is open, once it is there, or what went wrong.
     fn is_open(&mut self) -> Result<bool, ConnectionTrouble>
-        ensures same { self.new ≡ record self.old { who = self.new.who } }
-        ensures who { Hears self.old.who self.new.who }
+        ensures same { self.new
+            ≡ record self.old { who = self.new.who; call = self.new.call } }
+        ensures who { Hears C.Socket.remaining self.old.call self.old.who self.new.who }
     {
         let Some(mut stream) = self.stream.take() else {
             return Err(of_system(ErrorKind::NotFound));
@@ -341,8 +342,10 @@ impl<C: Connector> SocketConnection<C> {
     /// Reads what comes, and says with what became of the connection what is wrong with the keys,
     /// if they ended it.
     fn read(&mut self, handed: &mut Vec<u8>) -> (ConnectionOutcome, Option<CallTrouble>)
-        ensures same { self.new ≡ record self.old { who = self.new.who } }
-        ensures who { Hands handed.old.items handed.new.items self.old.who self.new.who }
+        ensures same { self.new
+            ≡ record self.old { who = self.new.who; call = self.new.call } }
+        ensures who { Hands C.Socket.remaining self.old.call handed.old.items handed.new.items
+            self.old.who self.new.who }
         ensures fits { self.old.keys.former ≡ None
             → fits (is_some self.old.keys.key) result.1 ≡ true }
     {
@@ -358,7 +361,7 @@ impl<C: Connector> SocketConnection<C> {
     fn give(&mut self, bytes: &[u8]) -> WriteOutcome
         requires { bytes.now ≢ [] }
         ensures count { CountsTaken (length bytes.now) result }
-        ensures same { self.new ≡ self.old }
+        ensures same { self.new ≡ record self.old { call = self.new.call } }
     {
         let Some(mut stream) = self.stream.take() else {
             return WriteOutcome::Broke;
@@ -407,7 +410,7 @@ impl<C: Connector> DeskConnection for SocketConnection<C> {
     fn opening(&mut self) -> Opening
         ensures keys { self.new.keys ≡ self.old.keys }
         ensures turned { self.new.turned ≡ turned_at result self.new.last self.old.turned }
-        ensures who { IsWhoAt result self.old.who self.new.who }
+        ensures who { IsWhoAt C.Socket.remaining self.old.call result self.old.who self.new.who }
     {
         let open = self.is_open();
         self.note_open(open)
@@ -444,6 +447,7 @@ impl<C: Connector> DeskConnection for SocketConnection<C> {
         ensures turned { self.new.turned ≡ turned_in result.outcome self.new.last self.old.turned }
         ensures who { self.new.who
             ≡ who_in result.outcome self.new.last (heard result.handed.items self.old.who) }
+        ensures said { IsSaid C.Socket.remaining self.old.call result.handed.items }
     {
         let mut handed = Vec::new(self.alloc);
         let (outcome, told) = self.read(&mut handed);
@@ -468,7 +472,7 @@ impl<C: Connector> DeskConnection for SocketConnection<C> {
 
     /// It is said to the desk that no more is sent, and what it still sends is read.
     fn close(&mut self)
-        ensures { self.new ≡ self.old }
+        ensures { self.new ≡ record self.old { call = None } }
     {
         if let Some(stream) = self.stream.take() {
             self.endings.end(stream.socket);

@@ -3,7 +3,7 @@
 ghost use Rattle.std.specs.Prelude.{◌≡◌, ◌∷◌, [], None, IfOk, OnOk, OnErr};
 ghost use Rattle.client.specs.Answers.{judged};
 ghost use Rattle.wire.specs.{Ranges.IsFrame, Stream.holding};
-ghost use Rattle.desk_talks.specs.Exchanges.{Hears, asking, heard_of, question_after, said_of};
+ghost use Rattle.desk_talks.specs.Exchanges.{Hears, asking, heard_of, question_after};
 ghost use Rattle.desk_talks.specs.Exchanges.{sending, talk};
 
 use client::{ClientFault, judged};
@@ -47,23 +47,16 @@ impl Model for Exchange {
     ghost view = { λ t. talk t.reader t.question (drop t.sent t.written.items) };
 }
 
-/// What a frame comes to, where this question waits.
-fn said_by(question: &Frame, given: Frame) -> AnswerOutcome
-    ensures { result ≡ said_of (judged question.now given) }
-{
-    match judged(question, given) {
-        Ok(what) => AnswerOutcome::Answer(what),
-        Err(ClientFault::Refused { refusal }) => AnswerOutcome::Refused(refusal),
-        Err(_) => AnswerOutcome::NoAnswer,
-    }
-}
-
 /// What a frame comes to that came alone, where this question waits, if one does.
 fn heard_by(question: Option<Frame>, given: Frame) -> AnswerOutcome
     ensures { result ≡ heard_of question (given ∷ []) }
 {
     match question {
-        Some(asked) => said_by(&asked, given),
+        Some(asked) => match judged(&asked, given) {
+            Ok(what) => AnswerOutcome::Answer(what),
+            Err(ClientFault::Refused { refusal }) => AnswerOutcome::Refused(refusal),
+            Err(_) => AnswerOutcome::NoAnswer,
+        },
         None => AnswerOutcome::NoAnswer,
     }
 }

@@ -12,7 +12,7 @@ use Rattle.formats.specs.declared.events.Event.TheVariants.{Square1, Blind4, Bli
 use Rattle.formats.specs.Events.{event_name}
 use Rattle.file_views.specs.Paths.{PathsAreApart, view_at}
 
--- the name of an event is no beginning of `psych`
+-- no event's name is a beginning of `schedule`, `psych`, `today` or `records`
 by_event : (e : Event) (rest : List ℕ) → view_at (codes "/" ++ (event_name e ++ rest)) ≡ None
 unfolding view_at
 by_event Cube3 rest = refl

@@ -1,14 +1,15 @@
-//! The page of who is registered for an event, in order of their bests.
+//! Who is registered for an event, in order of their bests, as a section of a page.
 
 ghost use Rattle.std.specs.Prelude.{◌≡◌, ◌++◌, map, option_map, slice_get, IfOk, OnOk};
+ghost use Rattle.std.specs.List.Sorted.{IsSortedByKey};
+ghost use Rattle.std.specs.Ordering.{nat_cmp};
 ghost use Rattle.serde_json.specs.View.{view};
 ghost use Rattle.markup.specs.Pieces.{piece_text};
 ghost use Rattle.competition_file.specs.Files.{data_of};
-ghost use Rattle.file_views.specs.Psych.{IsFilePage, IsPsychPage, best_in, best_words, inside};
-ghost use Rattle.file_views.specs.Psych.{line, line_of, lines, number_words, psych_page};
+ghost use Rattle.file_views.specs.Psych.{PushesPsych, best_in, best_words, inside, key, line};
+ghost use Rattle.file_views.specs.Psych.{line_of, lines, main_kind, number_words, psych_section};
 ghost use Rattle.file_views.specs.Psych.{rank_words};
 
-use crate::paths::FileView;
 use crate::psych_rows::{PsychRow, best, main_kind, other_kind, rank, ranked_rows};
 use attempts::{NoMemory, Value as Attempt, print_value};
 use competition_file::{CompetitionFile, ResultKind, kind_name};
@@ -19,23 +20,12 @@ use serde_json::Value;
 use std::alloc::Global;
 use wcif::{given_name, text_under};
 
-/// The page: the event, the competition, the competition again, the event again, the two kinds of
-/// bests, and the lines. It has no script: a file does not change all day.
-const PAGE: &[u8] = b"\
-<!DOCTYPE html>
-<html lang=\"en\"><head><meta charset=\"utf-8\">
-<meta name=\"viewport\" content=\"width=device-width, initial-scale=1\">
-<title>$ - $</title><link rel=\"stylesheet\" href=\"/style.css\"></head>
-<body class=\"one\"><main>
-<h1 dir=\"auto\">$</h1>
-<nav>
-<a href=\"/\">all rounds</a>
-<a href=\"/people\">find a name</a></nav>
+/// The section: the event, the two kinds of bests, and the lines.
+const SECTION: &[u8] = b"\
 <section class=\"people\"><table><caption><h2>$</h2>by the competition's file</caption>
 <thead><tr><th scope=\"col\">rank</th><th scope=\"col\">country</th><th scope=\"col\">name</th>\
 <th scope=\"col\">$</th><th scope=\"col\">$</th><th scope=\"col\">WCA ID</th></tr></thead><tbody>
 $</tbody></table></section>
-</main></body></html>
 ";
 
 /// A line: rank, country, name, both bests, and WCA ID.
@@ -137,6 +127,7 @@ fn push_row(
     rows: &[PsychRow],
     row: PsychRow,
 ) -> Result<(), NoMemory>
+    requires { IsSortedByKey (key (main_kind event)) nat_cmp rows.now }
     ensures { OnOk result (out.new.items
         ≡ out.old.items ++ line_of event (map view persons.now) rows.now row) }
 {
@@ -157,6 +148,7 @@ fn lines(
     persons: &[Value],
     rows: &[PsychRow],
 ) -> Result<Vec<u8>, NoMemory>
+    requires { IsSortedByKey (key (main_kind event)) nat_cmp rows.now }
     ensures { IfOk result (λ text. text.items ≡ lines event (map view persons.now) rows.now) }
 {
     let mut text = Vec::new(alloc);
@@ -177,59 +169,32 @@ fn inside(shown: &[u8]) -> &[u8]
     shown
 }
 
-/// The page of an event with these lines.
-fn page_with(alloc: Global, title: &[u8], event: Event, shown: &[u8]) -> Result<Vec<u8>, NoMemory>
-    ensures { IfOk result (λ page. page.items ≡ psych_page title.now event shown.now) }
+/// Adds the section of an event with these lines.
+fn push_section(out: &mut Vec<u8>, event: Event, shown: &[u8]) -> Result<(), NoMemory>
+    ensures { OnOk result (out.new.items ≡ out.old.items ++ psych_section event shown.now) }
 {
-    let mut page = Vec::new(alloc);
     let kind = main_kind(event);
-    let words = Piece::Html(event_words(event).as_bytes());
-    let main = Piece::Html(kind_name(kind).as_bytes());
-    let other = Piece::Html(kind_name(other_kind(kind)).as_bytes());
-    let title = Piece::Text(title);
     let pieces = [
-        words,
-        title,
-        title,
-        words,
-        main,
-        other,
+        Piece::Html(event_words(event).as_bytes()),
+        Piece::Html(kind_name(kind).as_bytes()),
+        Piece::Html(kind_name(other_kind(kind)).as_bytes()),
         Piece::Html(inside(shown)),
     ];
-    fill(&mut page, PAGE, &pieces)?;
-    Ok(page)
+    fill(out, SECTION, &pieces)
 }
 
-/// The page of an event.
-fn psych_page(
-    alloc: Global,
+/// Adds the section of an event.
+pub(crate) fn push_psych(
+    out: &mut Vec<u8>,
     file: &CompetitionFile,
-    title: &[u8],
     event: Event,
-) -> Result<Vec<u8>, NoMemory>
-    ensures { IfOk result (λ page. IsPsychPage title.now (data_of file.now) event page.items) }
+) -> Result<(), NoMemory>
+    ensures { OnOk result (PushesPsych (data_of file.now) event out.old.items out.new.items) }
 {
+    let alloc = *out.allocator();
     let persons = file.persons();
     let ranked = ranked_rows(alloc, persons, event)?;
     let shown = lines(alloc, event, persons, &ranked)?;
-    let page = page_with(alloc, title, event, &shown)?;
-    Ok(page)
-}
-
-/// The body of a page of a file, under the title of the competition, in HTML.
-///
-/// # Errors
-///
-/// Where memory runs out.
-pub fn file_page(
-    alloc: Global,
-    file: &CompetitionFile,
-    title: &[u8],
-    view: FileView,
-) -> Result<Vec<u8>, NoMemory>
-    ensures { IfOk result (λ page. IsFilePage title.now (data_of file.now) view page.items) }
-{
-    match view {
-        FileView::Psych(event) => psych_page(alloc, file, title, event),
-    }
+    push_section(out, event, &shown)?;
+    Ok(())
 }

@@ -1,7 +1,7 @@
 -- The other desks of a hall, and how the link to one is driven over its connection (the project's
 -- own).
 use Rattle.std.specs.Prelude.{◌≡◌, ◌≢◌, ◌⊎◌, ℕ, ◌+◌, ◌^◌, ◌-◌, ◌==◌, min, List, [], ◌∷◌, ◌++◌, map}
-use Rattle.std.specs.Prelude.{Option, None, Some, Bool, true, false}
+use Rattle.std.specs.Prelude.{Option, None, Some, Bool}
 use Rattle.std.specs.{List.AllByRecursion, declared.net.SocketAddr.SocketAddr}
 use Rattle.desk_sockets.specs.Wires.{Began, Closed, Wired, took}
 use Rattle.links.specs.Links.{LinkState, Pushes, new_link}
@@ -65,11 +65,6 @@ has_number desk n = n.line.desk == desk
 -- many waited as may wait
 abbrev pub WaitsIn : List ℕ → LinkState → LinkState → Type 0
 WaitsIn frame a b = Pushes push.Waits frame a b ⊎ Pushes push.DroppedOldest frame a b
-
--- true where it waits, false where it has no bytes, or memory was refused
-abbrev pub IsStored : Bool → List ℕ → LinkState → LinkState → Type 0
-IsStored true frame a b = WaitsIn frame a b
-IsStored false frame a b = b ≡ a
 
 -- it waits in the link, or was dropped, which is counted
 pub record Waits (frame : List ℕ) (a b : Line) : Type 0 where

@@ -5,7 +5,7 @@ ghost use Rattle.links.specs.Links.{wish_of};
 ghost use Rattle.desk_sockets.specs.Wires.{address_of};
 ghost use Rattle.mio_sockets.specs.{Keeping.IsKept, Linking.is_stuck, Linking.side};
 ghost use Rattle.mio_sockets.specs.Waiting.{is_busy, is_opening, is_write, quiet_in, wait_in};
-ghost use Rattle.mio_sockets.specs.Wiring.{IsStored, TakesFrame, neighbour, new_line};
+ghost use Rattle.mio_sockets.specs.Wiring.{TakesFrame, neighbour, new_line};
 ghost use Rattle.links.specs.declared.stages.LinkAction.TheVariants as wish;
 
 use desk_sockets::{ConnectionTrouble, DeskConnection, DialogueStream};
@@ -81,23 +81,6 @@ fn wait_in(link: &Link, now: u64) -> Option<u64>
             LinkAction::Write => Some(STUCK.saturating_sub(quiet_in(link.stage(), now))),
             LinkAction::Open | LinkAction::Close | LinkAction::GiveUp => Some(0),
         },
-    }
-}
-
-/// Gives a frame to a link. False: it has no bytes, or memory was refused for it, and nothing
-/// changes.
-fn store(link: &mut Link, alloc: Global, frame: &[u8]) -> bool
-    ensures { IsStored result frame.now link.old link.new }
-{
-    if frame.is_empty() {
-        return false;
-    }
-    let Ok(copy) = Vec::from_slice(alloc, frame) else {
-        return false;
-    };
-    match link.push(copy) {
-        PushOutcome::Waits | PushOutcome::DroppedOldest => true,
-        PushOutcome::NoMemory => false,
     }
 }
 
@@ -300,9 +283,13 @@ impl<W: DeskConnection> Neighbour<W> {
         ensures frame { TakesFrame frame.now self.old.line self.new.line }
         ensures wire { self.new.wire ≡ self.old.wire }
     {
-        if !store(&mut self.side.link, alloc, frame) {
-            self.lost = self.lost.saturating_add(1);
+        if !frame.is_empty()
+            && let Ok(copy) = Vec::from_slice(alloc, frame)
+            && self.side.link.push(copy) != PushOutcome::NoMemory
+        {
+            return;
         }
+        self.lost = self.lost.saturating_add(1);
     }
 
     /// Drives the link over its connection. The line that is due, if one is.

@@ -1,7 +1,7 @@
 -- What a desk has to ask of its clients and its links at each step (the project's own).
 use Rattle.std.specs.Prelude.{◌≡◌, ◌≢◌, ◌⊎◌, ◌≤◌, ◌<◌, ℕ, ◌-◌, min, List, [], ◌∷◌, ◌++◌, length}
-use Rattle.std.specs.Prelude.{Option, None, Some, Bool, true, false, IfSome, ◌↔◌}
-use Rattle.std.specs.List.{AllByRecursion}
+use Rattle.std.specs.Prelude.{Option, None, Some, Bool, true, false, IfSome, ◌↔◌, ◌+◌, vec_len}
+use Rattle.std.specs.{Prelude.vec_capacity, Global.Vec, List.AllByRecursion}
 use Rattle.answers.specs.Seen.{Seen}
 use Rattle.guarded.specs.LockedConnections.{LockedConnectionOf, WantsRead, begun}
 use Rattle.multiplex.specs.{Dear.fresh_dear, Noting.awakes, Silence.waited_for}
@@ -23,6 +23,12 @@ use Rattle.multiplex.specs.declared.ends.ServingEnd.TheVariants as over_is
 abbrev pub left_at : Option Ticking → ℕ → Option ℕ
 left_at None now = None
 left_at (Some t) now = Some (left t now)
+
+-- a frame waits after those that waited before, or memory was refused, since there was no room
+abbrev pub WaitsAfter : List ℕ → (old new : Vec ℕ) → Type 0
+WaitsAfter frame old new =
+    (new.items ≡ old.items ++ frame)
+    ⊎ ((new.items ≡ old.items) × (vec_capacity old < vec_len old + length frame))
 
 -- where own frames wait beside the links, they are to be kept at once
 abbrev pub due_beside : {L : Type 0} → (L → ℕ → Option ℕ → Type 0) → List ℕ → L → ℕ → Option ℕ

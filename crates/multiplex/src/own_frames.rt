@@ -1,8 +1,11 @@
 //! What a desk says to itself: its frames wait beside the links, and are heard before it settles.
 
-ghost use Rattle.std.specs.Prelude.{◌≡◌, ◌==◌, IsTrue};
+ghost use Rattle.std.specs.Prelude.{◌≡◌, ◌==◌, ℕ, List, [], ◌∷◌, IsTrue};
 ghost use Rattle.std.specs.Bool.{OnFalse, OnTrue};
-ghost use Rattle.multiplex.specs.model.{Ticks.desks, Visiting.HearsOwn, Visiting.SettlesDesks};
+ghost use Rattle.serving.specs.Adding.{Hands};
+ghost use Rattle.multiplex.specs.model.{Ticks.desks, Visiting.HearsNext, Visiting.HearsWhere};
+ghost use Rattle.multiplex.specs.model.Visiting.{HearsThenSettles, SettlesDesks};
+ghost use Rattle.multiplex.specs.Musts.{WaitsAfter};
 
 use crate::links::PeerLinks;
 use answers::Desk;
@@ -13,8 +16,13 @@ use wire::{Difference, Version};
 
 /// Such links, beside which the frames wait that the desk has pushed to itself.
 pub trait OwnLinks: PeerLinks {
+    /// The frames that wait, one after the other, as bytes.
+    ghost waiting: { Self → List ℕ };
+
     /// The frames that wait, one after the other. They wait no more.
     fn own(&mut self) -> Vec<u8>
+        ensures frames { result.items ≡ waiting self.old }
+        ensures none { waiting self.new ≡ [] }
         ensures handed { Self.handed self.new ≡ Self.handed self.old };
 }
 
@@ -32,6 +40,7 @@ impl<L> OwnFrames<L> {
     pub fn new(alloc: Global, desk: u8, links: L) -> OwnFrames<L>
         ensures desk { result.desk ≡ desk }
         ensures links { result.links ≡ links }
+        ensures none { result.waiting.items ≡ [] }
     {
         OwnFrames {
             alloc,
@@ -40,6 +49,13 @@ impl<L> OwnFrames<L> {
             waiting: Vec::new(alloc),
         }
     }
+}
+
+/// Adds a frame to those that wait. Where memory is refused for it, it is dropped.
+fn hold(waiting: &mut Vec<u8>, frame: &[u8])
+    ensures { WaitsAfter frame.now waiting.old waiting.new }
+{
+    let _ = waiting.extend_from_slice(frame);
 }
 
 impl<L: PeerLinks> Peers for OwnFrames<L> {
@@ -52,10 +68,14 @@ impl<L: PeerLinks> Peers for OwnFrames<L> {
     /// is dropped.
     fn push(&mut self, to: u8, frame: &[u8])
         ensures own { OnTrue (to == self.old.desk) (self.new.links ≡ self.old.links) }
+        ensures waits { OnTrue (to == self.old.desk)
+            (WaitsAfter frame.now self.old.waiting self.new.waiting) }
         ensures others { OnFalse (to == self.old.desk) (self.new.waiting ≡ self.old.waiting) }
+        ensures pushed { OnFalse (to == self.old.desk) (Hands (L.handed self.old.links)
+            (L.handed self.new.links) (record { to = to; bytes = frame.now } ∷ [])) }
     {
         if to == self.desk {
-            let _ = self.waiting.extend_from_slice(frame);
+            hold(&mut self.waiting, frame);
         } else {
             self.links.push(to, frame);
         }
@@ -70,11 +90,15 @@ impl<L: PeerLinks> PeerLinks for OwnFrames<L> {
     // At once where a frame waits.
     ghost due = { λ own now left. due_beside L.due own.waiting.items own.links now left };
 
-    fn keep(&mut self, now: u64) {
+    fn keep(&mut self, now: u64)
+        ensures waiting { self.new.waiting ≡ self.old.waiting }
+    {
         self.links.keep(now);
     }
 
-    fn differs(&mut self, difference: Difference) {
+    fn differs(&mut self, difference: Difference)
+        ensures waiting { self.new.waiting ≡ self.old.waiting }
+    {
         self.links.differs(difference);
     }
 
@@ -88,17 +112,20 @@ impl<L: PeerLinks> PeerLinks for OwnFrames<L> {
 }
 
 impl<L: PeerLinks> OwnLinks for OwnFrames<L> {
+    ghost waiting = { λ own. own.waiting.items };
+
     fn own(&mut self) -> Vec<u8>
-        ensures frames { result ≡ self.old.waiting }
+        ensures links { self.new.links ≡ self.old.links }
     {
         mem::replace(&mut self.waiting, Vec::new(self.alloc))
     }
 }
 
-/// Serves the messages of desks that a connection brought, one after the other.
+/// Serves the messages of desks that a connection brought, one after the other, until another frame
+/// is next, or none.
 fn hear<D: Desk, P: Peers>(talk: &mut Connection, node: &mut D, peers: &mut P)
     requires home { D.home_of node.old ≡ talk.old.home }
-    ensures hears { HearsOwn D.Desk P.Peers talk.old.wire talk.old.home
+    ensures hears { HearsNext D.Desk P.Peers talk.old talk.new
         (desks node.old peers.old) (desks node.new peers.new) }
     ensures home { D.home_of node.new ≡ D.home_of node.old }
 {
@@ -119,7 +146,7 @@ fn hear_own<D: Desk, L: OwnLinks>(
     node: &mut D,
     links: &mut L,
 )
-    ensures hears { HearsOwn D.Desk L.Peers wire (D.home_of node.old)
+    ensures hears { HearsWhere D.Desk L.Peers L.waiting hears wire (D.home_of node.old)
         (desks node.old links.old) (desks node.new links.new) }
     ensures home { D.home_of node.new ≡ D.home_of node.old }
 {
@@ -148,6 +175,8 @@ pub(crate) fn settle<D: Desk, L: OwnLinks>(
 ) -> bool
     ensures settles { SettlesDesks D.Desk L.Peers wire (D.home_of node.old) result
         (desks node.old links.old) (desks node.new links.new) }
+    ensures heard { HearsThenSettles D.Desk L.Peers L.waiting hears wire (D.home_of node.old) result
+        (desks node.old links.old) node.new }
     ensures settled { IsTrue result → D.is_settled node.new }
     ensures home { D.home_of node.new ≡ D.home_of node.old }
 {

@@ -1,12 +1,14 @@
 //! Serving many clients, side by side.
 
-ghost use Rattle.std.specs.Prelude.{◌≡◌, ◌≤◌, ◌∷◌, [], ℕ, length, IsTrue, Option, None};
+ghost use Rattle.std.specs.Prelude.{◌≡◌, ◌≤◌, ◌∷◌, [], ℕ, length, IsTrue, Option, None, true};
 ghost use Rattle.polled.specs.{Telling.Tells, Requests.Asks};
 ghost use Rattle.multiplex.specs.Musts.{AsksDuly, AsksUntil, EndsRound, Musts, left_at, stand};
 ghost use Rattle.multiplex.specs.{Musts.WereKeptAt, Musts.wait_by, Passing.first_ticks};
 ghost use Rattle.multiplex.specs.{model.Tables.AreKept, model.Tables.KeepsAll, Scenes.scene};
 ghost use Rattle.multiplex.specs.model.Scenes.{Does, DoesRound};
-ghost use Rattle.multiplex.specs.{model.Ticks.desks, model.Visiting.SettlesDesks, Scenes.Serves};
+ghost use Rattle.multiplex.specs.model.Ticks.{Desks as DesksOf, desks};
+ghost use Rattle.multiplex.specs.{model.Visiting.HearsThenSettles, model.Visiting.SettlesDesks};
+ghost use Rattle.multiplex.specs.Scenes.{Serves};
 
 use crate::ends::{ServingEnd, ServingsOutcome};
 use crate::links::PeerLinks;
@@ -71,6 +73,8 @@ fn settle_and_keep<D: Desk, L: OwnLinks>(
 ) -> bool
     ensures settles { SettlesDesks D.Desk L.Peers wire (D.home_of node.old) result
         (desks node.old links.old) (desks node.new links.new) }
+    ensures heard { HearsThenSettles D.Desk L.Peers L.waiting hears wire (D.home_of node.old) result
+        (desks node.old links.old) node.new }
     ensures kept { IsTrue result → WereKeptAt now (L.kept links.new) }
     ensures settled { IsTrue result → D.is_settled node.new }
     ensures home { D.home_of node.new ≡ D.home_of node.old }
@@ -103,6 +107,8 @@ fn end_round<D: Desk, C: Sockets, L: OwnLinks>(
         table.old table.new
         (scene node.old links.old clients.old) (scene node.new links.new clients.new) }
     ensures settled { result ≡ None → D.is_settled node.new }
+    ensures heard { result ≡ None → (a : DesksOf D L) × HearsThenSettles D.Desk L.Peers L.waiting
+        true terms.wire (D.home_of node.old) true a node.new }
     ensures ends { Asks C.requests clients.old clients.new (EndsRound terms (D.home_of node.old) now
         result (D.seen node.new) table.new (L.kept links.new)) }
     ensures kept { KeepsAll table.old table.new }

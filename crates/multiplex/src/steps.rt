@@ -1,8 +1,10 @@
 //! The steps of serving many clients: one comes, one is ready, one is let go, and time passes.
 
 ghost use Rattle.std.specs.Prelude.{◌≡◌, ◌≢◌, ◌≤◌, ◌<◌, ◌-◌, ◌↔◌, ◌&&◌, [], length, None, Some};
+ghost use Rattle.std.specs.Prelude.{Bool, false};
 ghost use Rattle.std.specs.{Prelude.IsTrue, Prelude.is_some, List.AllByRecursion};
-ghost use Rattle.multiplex.specs.{Passing.over_by, Scenes.scene, model.Visiting.Sends};
+ghost use Rattle.multiplex.specs.{Passing.over_by, Passing.over_settled, Scenes.scene};
+ghost use Rattle.multiplex.specs.model.Visiting.{Sends};
 ghost use Rattle.multiplex.specs.Musts.{Accepts, Admits, AreEndsOf, Attends, IsEndOf, IsWoken};
 ghost use Rattle.multiplex.specs.Musts.{MakesPlace, NoneIsSilent, OffersLast, WaitsToRead};
 ghost use Rattle.polled.specs.Requests.{Asks};
@@ -120,11 +122,16 @@ fn host<D: Desk, C: Sockets, L: OwnLinks>(
     }
 }
 
-/// Whether serving is over by what ends a connection.
-fn is_over(why: EndReason) -> bool
-    ensures { IsTrue result ↔ (why ≡ EndReason.Over) }
+/// Why serving is over once a connection was ended for this reason. `over`: what its own end says.
+fn over_for(reason: EndReason, over: Option<ServingEnd>) -> Option<ServingEnd>
+    ensures settled { (ok : Bool) → ((ok ≡ false) ↔ (Some reason ≡ Some why.Over))
+        → result ≡ over_settled ok over }
+    ensures goes_on { result ≡ None → reason ≢ why.Over }
 {
-    matches!(why, EndReason::Over)
+    match reason {
+        EndReason::Over => Some(ServingEnd::Down),
+        _ => over,
+    }
 }
 
 /// Lets the client with this number have its turn, if its connection is open, and says why serving
@@ -168,10 +175,7 @@ pub(crate) fn visit<D: Desk, C: Sockets, L: OwnLinks>(
         None => None,
         Some(why) => {
             let over = shut(table, place, clients);
-            if is_over(why) {
-                return Some(ServingEnd::Down);
-            }
-            over
+            over_for(why, over)
         }
     }
 }

@@ -49,14 +49,14 @@ fn is_no_end(byte: u8) -> bool
 }
 
 /// Whether a text can be on a line.
-fn is_line(text: &[u8]) -> bool
+pub(crate) fn is_line(text: &[u8]) -> bool
     ensures { result ≡ is_line text.now }
 {
     text.iter().all(|byte| is_no_end(*byte))
 }
 
 /// What an entry is whose id is that of an item.
-fn known_as(item: &Item, entry: &Entry) -> QueueOutcome
+pub(crate) fn known_as(item: &Item, entry: &Entry) -> QueueOutcome
     ensures { result ≡ known_as item.now entry.now }
 {
     if item.entry.text() == entry.text() {
@@ -71,7 +71,7 @@ impl Items {
     ghost use Rattle.std.specs.Prelude.{None};
     ghost use Rattle.std.specs.Option.{option_copied, option_map};
     ghost use Rattle.outbox.specs.Items.{all_kept, is_answered, is_full, item_in, no_items};
-    ghost use Rattle.outbox.specs.Items.{queued, taken_back, Takes, with_answer};
+    ghost use Rattle.outbox.specs.Items.{queued, taken_back, with_answer};
     ghost use Rattle.outbox.specs.Journals.{FollowsIf};
     ghost use Rattle.std.specs.Prelude.{ℕ};
 
@@ -127,14 +127,14 @@ impl Items {
     }
 
     /// Whether there is no room for one more item.
-    fn is_full(&self) -> bool
+    pub(crate) fn is_full(&self) -> bool
         ensures { result ≡ is_full self.now }
     {
         self.items.len() >= MOST_ITEMS
     }
 
     /// Queues an entry whose id is not known.
-    fn queue(&mut self, entry: Entry, now: u64) -> Result<(), NoMemory>
+    pub(crate) fn queue(&mut self, entry: Entry, now: u64) -> Result<(), NoMemory>
         requires new { item_in self.old entry.id ≡ None }
         requires room { is_full self.old ≡ false }
         ensures ok { OnOk result (self.new ≡ queued self.old entry now) }
@@ -146,25 +146,6 @@ impl Items {
         let _old = self.items.insert(id, Item { entry, since: now })?;
         let _put = self.lines.extend_from_slice(&line);
         Ok(())
-    }
-
-    /// Takes an entry, unless its id is known, it has no line, or there is no room. At NoMemory the
-    /// items are as they were.
-    pub(crate) fn take(&mut self, entry: Entry, now: u64) -> Result<QueueOutcome, NoMemory>
-        ensures ok { IfOk result (λ taken. Takes self.old entry now taken self.new) }
-        ensures err { OnErr result (self.new ≡ self.old) }
-    {
-        if let Some(item) = self.find(entry.id()) {
-            return Ok(known_as(item, &entry));
-        }
-        if !is_line(entry.text()) {
-            return Ok(QueueOutcome::Unfit);
-        }
-        if self.is_full() {
-            return Ok(QueueOutcome::Full);
-        }
-        self.queue(entry, now)?;
-        Ok(QueueOutcome::New)
     }
 
     /// The lines that are to be put into the journal.

@@ -3,7 +3,7 @@
 ghost use Rattle.std.specs.Prelude.{◌≡◌, OnErr, OnOk, length};
 
 use crate::item::{Item, QueueOutcome};
-use crate::items::Items;
+use crate::items::{Items, is_line, known_as};
 use crate::state::{ItemState, state_of};
 use acceptor::NoMemory;
 use acceptor::entry::Entry;
@@ -99,7 +99,17 @@ impl Outbox {
         ensures others { self.new ≡ with_list self.old self.new.list }
         ensures err { OnErr result (self.new ≡ self.old) }
     {
-        self.items.take(entry, now)
+        if let Some(item) = self.items.find(entry.id()) {
+            return Ok(known_as(item, &entry));
+        }
+        if !is_line(entry.text()) {
+            return Ok(QueueOutcome::Unfit);
+        }
+        if self.items.is_full() {
+            return Ok(QueueOutcome::Full);
+        }
+        self.items.queue(entry, now)?;
+        Ok(QueueOutcome::New)
     }
 
     /// The item of an id, if one is known.

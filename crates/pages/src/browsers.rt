@@ -3,7 +3,7 @@
 ghost use Rattle.std.specs.Prelude.{◌≡◌, IfOk};
 ghost use Rattle.pages.specs.Kept.{Holds};
 
-use crate::table::{BrowserLimits, BrowserTable};
+use crate::table::{BrowserLimits, BrowserTable, Step};
 use http_server::Service;
 use polled::Sockets;
 use std::alloc::{AllocError, Global};
@@ -55,7 +55,14 @@ impl<C: Sockets + Drop> Browsers<C> {
         ensures asks { Asks C.requests (sockets_of self.old) (sockets_of self.new)
             (AsksRound wait result (table_of self.old) (table_of self.new)) }
     {
-        self.table.round(service, wait)
+        for _turn in 0..u64::MAX {
+            match self.table.step(service, wait) {
+                Step::GoesOn => {}
+                Step::Over { now } => return Some(now),
+                Step::Failed => return None,
+            }
+        }
+        None
     }
 
     /// The sockets of the browsers, for what can be asked of them without a change.

@@ -48,7 +48,7 @@ pub(crate) struct BrowserTable<C> {
 
 /// What came of a step of a round.
 #[derive(Clone, Copy, PartialEq, Eq, Debug)]
-enum Step {
+pub(crate) enum Step {
     GoesOn,
     /// The round is over, this many milliseconds after the first one.
     Over { now: u64 },
@@ -59,7 +59,7 @@ impl<C: Sockets + Drop> BrowserTable<C> {
     ghost use Rattle.pages.specs.Asking.{FindsLate, FindsLongest, KeepsOn, LetsGo, SettlesBy};
     ghost use Rattle.pages.specs.Asking.{StepsBy};
     ghost use Rattle.pages.specs.Kept.{AnswersIn, IsFirst, Keeps, KeepsWith, StaysSame};
-    ghost use Rattle.pages.specs.Musts.{Accepts, Admits, AsksRound, Attends, EndsRound, GivesPlace};
+    ghost use Rattle.pages.specs.Musts.{Accepts, Admits, Attends, EndsRound, GivesPlace};
     ghost use Rattle.pages.specs.Musts.{LetsLongestGo, MakesRoom};
     ghost use Rattle.polled.specs.Requests.{Asks};
     ghost use Rattle.polled.specs.declared.answers.AcceptedPeer.TheVariants as accepted_is;
@@ -306,7 +306,7 @@ impl<C: Sockets + Drop> BrowserTable<C> {
     }
 
     /// Does what can be done next without waiting.
-    fn step<S: Service>(&mut self, service: &mut S, wait: u64) -> Step
+    pub(crate) fn step<S: Service>(&mut self, service: &mut S, wait: u64) -> Step
         ensures kept { Keeps C.happened self.old self.new }
         ensures terms { self.new.terms ≡ self.old.terms }
         ensures answers { AnswersIn C.happened S.answers service.old service.new self.old self.new }
@@ -328,24 +328,5 @@ impl<C: Sockets + Drop> BrowserTable<C> {
             }
             Ready::Failed => Step::Failed,
         }
-    }
-
-    /// Lets each browser that is ready have its turn, and then those go that are waited for too
-    /// long. Returns when that was over. None: the system doesn't tell what is ready any more.
-    pub(crate) fn round<S: Service>(&mut self, service: &mut S, wait: u64) -> Option<u64>
-        ensures kept { Keeps C.happened self.old self.new }
-        ensures terms { self.new.terms ≡ self.old.terms }
-        ensures answers { AnswersIn C.happened S.answers service.old service.new self.old self.new }
-        ensures asks { Asks C.requests self.old.sockets self.new.sockets
-            (AsksRound wait result self.old self.new) }
-    {
-        for _turn in 0..u64::MAX {
-            match self.step(service, wait) {
-                Step::GoesOn => {}
-                Step::Over { now } => return Some(now),
-                Step::Failed => return None,
-            }
-        }
-        None
     }
 }

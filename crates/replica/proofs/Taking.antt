@@ -1,12 +1,12 @@
 -- What an event is answered, from the plan of its step.
-use Rattle.std.proofs.Common.{◌≡◌, ℕ, ◌↔◌, List, Result, Err, refl, sym, ap, subst}
+use Rattle.std.proofs.Common.{◌≡◌, ℕ, ◌↔◌, List, Result, Ok, Err, refl, sym, ap, subst}
 use Rattle.acceptor.specs.declared.{entry.Entry.Entry, message.Message.Message}
 use Rattle.acceptor.specs.declared.stored.Stored.{Stored}
 use Rattle.proposer.specs.declared.fault.{Refusal.Refusal, StepFault.StepFault}
 use Rattle.proposer.specs.declared.fault.Refusal.TheVariants.{Busy, LogFull, BallotsSpent}
 use Rattle.proposer.specs.declared.fault.StepFault.TheVariants.{Refused, NoMemory}
 use Rattle.proposer.specs.declared.plan.Plan.{Plan}
-use Rattle.learner.specs.{Desks.Desk, Steps.Done}
+use Rattle.learner.specs.{Desks.Desk, Steps.Done, Steps.done}
 use Rattle.replica.specs.{declared.roles.fault.NodeFault.NodeFault, Handles.Takes}
 use Rattle.replica.specs.{roles.Faults.refused_as, roles.Faults.fault_of, model.Planning.IsPlanned}
 use Rattle.replica.specs.{roles.model.RunningDesks.RunningDesk, Stores.HoldsBeforeOrAfter}
@@ -107,3 +107,8 @@ left_as a b p s may_hold may_break same planned h =
     let desk : b.desk ≡ a.desk = ap (λ (r : RunningDesk). r.desk) same in
     subst (λ (x : Desk). HoldsBeforeOrAfter may_hold may_break x s) desk
     (h s (subst (λ (x : Desk). IsPlanned x p s) (sym desk) planned))
+
+-- a plan is that of the step that does what it plans
+pub planned_ok : (x : Desk) (p : Plan) (s : Result Done Refusal) → s ≡ Ok (done x p)
+    → IsPlanned x (Ok p) s
+planned_ok x p s is = record { plan = is; refused = λ r. (λ k. absurd cc, λ k. absurd cc) }

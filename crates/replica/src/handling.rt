@@ -1,19 +1,16 @@
 //! What one event does at a desk: its plan is worked out, room is made for it, its one change is
 //! saved, then it is adopted, and only then are its messages handed out.
 
-ghost use Rattle.std.specs.Prelude.{◌≡◌, ◌≢◌, ◌⊎◌, ◌<◌, Ok, Err, None, false, IsOk, IfOk, OnOk};
+ghost use Rattle.std.specs.Prelude.{◌≡◌, ◌≢◌, ◌⊎◌, ◌<◌, Err, None, false, IsOk, IfOk, OnOk};
 ghost use Rattle.std.specs.Prelude.{IfErr};
-ghost use Rattle.learner.specs.declared.event.DeskEvent.TheVariants.{Deliver};
-ghost use Rattle.learner.specs.Steps.{done, step};
-ghost use Rattle.proposer.specs.{Plans.IsNothing, Refusals.RefusesAs};
-ghost use Rattle.replica.specs.roles.model.RunningDesks.{Fits, delivery};
+ghost use Rattle.replica.specs.roles.model.RunningDesks.{Fits};
 ghost use Rattle.replica.specs.{Handles.IsIgnored, model.Planning.running_step};
 ghost use Rattle.replica.specs.Stores.{FindsOldOrHeld, HoldsOneOf, HoldsStep, KeepsAfter};
 ghost use Rattle.replica.specs.Stores.{KeepsBefore, KeepsDesk};
 ghost use Rattle.replica.specs.model.Planning.{HoldsPlan, IsSameDesk, TakesPlan, TakesStep};
 
 use crate::roles::{NodeFault, Running};
-use acceptor::message::{Message, Messages};
+use acceptor::message::Messages;
 use acceptor::stored::Change;
 use learner::event::DeskEvent;
 use proposer::fault::StepFault;
@@ -89,23 +86,6 @@ fn carry_out<K: Keeper>(
     }
 }
 
-/// What the desk plans at a message.
-fn plan_message(desk: &mut Running, message: &Message) -> Result<Plan, StepFault>
-    ensures plan { let x = desk.old in
-        IfOk result (λ p. step x.desks x.number x.desk (Deliver message.now) ≡ Ok (done x.desk p)) }
-    ensures delivery { IfOk result (λ p. p ≡ delivery desk.old message.now) }
-    ensures refused { let x = desk.old in
-        RefusesAs result (step x.desks x.number x.desk (Deliver message.now)) }
-    ensures fits { IfOk result (Fits desk.new) }
-    ensures same { desk.new ≡ record desk.old { room = desk.new.room } }
-    ensures quiet { IsNothing (delivery desk.old message.now) → IsOk result }
-{
-    match desk.deliver(message) {
-        Ok(plan) => Ok(plan),
-        Err(_) => Err(StepFault::NoMemory),
-    }
-}
-
 /// Takes an event at a desk whose keeper is not Down.
 #[tactic(auto, using(crate::proofs::Finding::finds_same))]
 pub fn take_event<K: Keeper>(
@@ -146,9 +126,9 @@ pub fn take_event<K: Keeper>(
             let planned = desk.tick();
             carry_out(keeper, desk, planned)
         }
-        DeskEvent::Deliver(message) => {
-            let planned = plan_message(desk, &message);
-            carry_out(keeper, desk, planned)
-        }
+        DeskEvent::Deliver(message) => match desk.deliver(&message) {
+            Ok(plan) => carry_out(keeper, desk, Ok(plan)),
+            Err(_) => Err(NodeFault::NoMemory),
+        },
     }
 }

@@ -1,16 +1,14 @@
 //! One desk of a replicated log, over the store that keeps its state.
 
-ghost use Rattle.std.specs.Prelude.{◌≡◌, ◌≢◌, ◌⊎◌, ◌↔◌, ◌≤◌, ◌<◌, Err, true, false, not, IsOk};
-ghost use Rattle.std.specs.Prelude.{IfOk, OnOk, IfErr, IsTrue, length};
+ghost use Rattle.std.specs.Prelude.{◌≡◌, ◌≢◌, ◌⊎◌, ◌≤◌, ◌<◌, Err, false, IfOk, IfErr, IsTrue};
+ghost use Rattle.std.specs.Prelude.{length};
 ghost use Rattle.std.specs.List.{AllByRecursion};
 ghost use Rattle.acceptor.specs.Ballots.{no_ballot};
 ghost use Rattle.learner.specs.Ranges.{IsReal};
 ghost use Rattle.store.specs.Ranges.{IsHome};
-ghost use Rattle.replica.specs.{roles.Opening.opened, Settles.FindsEither, Stores.KeepsStill};
-ghost use Rattle.replica.specs.{Handles.FitInFrames, Handles.Handles, Opens.GivesBack, Opens.Opens};
-ghost use Rattle.replica.specs.{Lengths.nothing_told, Lengths.told_after, Settles.Settles};
-ghost use Rattle.replica.specs.model.Planning.{Ignores, TakesAt, step_of};
-ghost use Rattle.replica.specs.Stores.{FindsOldOrHeld, HasKept, HoldsDesk, HoldsNoOther, HoldsStep};
+ghost use Rattle.replica.specs.{roles.Opening.opened, Settles.Settles, Stores.KeepsStill};
+ghost use Rattle.replica.specs.{Handles.Handles, Lengths.nothing_told, Opens.GivesBack, Opens.Opens};
+ghost use Rattle.replica.specs.Stores.{HasKept, HoldsDesk, HoldsNoOther};
 
 use crate::entries::look_at_all;
 use crate::handling::take_event;
@@ -228,36 +226,9 @@ impl<K: Keeper + Drop> Replica<K> {
     /// this call and in every later one: nothing is handed out, the desk still shows its state
     /// before that event, and a store that is settled and opened again holds the state before it or
     /// the one after it.
+    #[tactic(auto, using(crate::proofs::Finding::finds_same))]
     pub fn handle(&mut self, event: DeskEvent) -> Result<Messages, NodeFault>
         ensures { Handles K.Keeper self.old event result self.new }
-    {
-        self.take(event)
-    }
-
-    /// The same, clause by clause.
-    #[tactic(auto, using(crate::proofs::Finding::finds_same))]
-    fn take(&mut self, event: DeskEvent) -> Result<Messages, NodeFault>
-        ensures ended { self.old.is_down ≡ true
-            → (result ≡ Err NodeFault.Down) × (self.new ≡ self.old) }
-        ensures takes { self.old.is_down ≡ false
-            → TakesAt (K.home_of self.old.keeper) self.old.desk event self.new.desk result }
-        ensures entries { IfOk result FitInFrames }
-        ensures told { let home = K.home_of self.old.keeper in
-            self.new.told ≡ told_after home event result self.old.told }
-        ensures ignored { self.old.is_down ≡ false → Ignores K.Keeper self.old event
-            → IsOk result × (self.new.keeper ≡ self.old.keeper) }
-        ensures down { (result ≡ Err NodeFault.Down) ↔ (self.new.is_down ≡ true) }
-        ensures counted { self.old.is_down ≡ false → result ≡ Err NodeFault.Down
-            → K.failures_of self.old.keeper < K.failures_of self.new.keeper }
-        ensures uncounted { result ≢ Err NodeFault.Down
-            → K.failures_of self.new.keeper ≡ K.failures_of self.old.keeper }
-        ensures stored { self.new.is_down ≡ false
-            → HoldsDesk K.Keeper self.new.keeper self.new.desk }
-        ensures left { self.old.is_down ≡ false → self.new.is_down ≡ true
-            → HoldsStep K.Keeper self.new.keeper self.old.desk (step_of K.Keeper self.old event) }
-        ensures finds { FindsOldOrHeld K.Keeper self.old.keeper self.new.keeper }
-        ensures honest { K.is_honest self.new.keeper → K.is_honest self.old.keeper }
-        ensures home { K.home_of self.new.keeper ≡ K.home_of self.old.keeper }
     {
         if self.is_down {
             return Err(NodeFault::Down);
@@ -284,28 +255,6 @@ impl<K: Keeper + Drop> Replica<K> {
     /// False: the desk is Down, as it was before, or from now on.
     pub fn settle(&mut self) -> bool
         ensures { Settles K.Keeper self.old result self.new }
-    {
-        self.commit()
-    }
-
-    /// The same, clause by clause.
-    fn commit(&mut self) -> bool
-        ensures desk { self.new.desk ≡ self.old.desk }
-        ensures told { self.new.told ≡ self.old.told }
-        ensures ended { self.old.is_down ≡ true → self.new ≡ self.old }
-        ensures down { self.new.is_down ≡ not result }
-        ensures settled { IsTrue result → K.is_settled self.new.keeper }
-        ensures idle { IsTrue result → K.is_settled self.old.keeper → self.new ≡ self.old }
-        ensures stored { self.new.is_down ≡ false
-            → HoldsDesk K.Keeper self.new.keeper self.new.desk }
-        ensures left { self.old.is_down ≡ false
-            → FindsEither K.Keeper self.old.keeper self.new.keeper }
-        ensures counted { self.old.is_down ≡ false → result ≡ false
-            → K.failures_of self.old.keeper < K.failures_of self.new.keeper }
-        ensures uncounted { IsTrue result
-            → K.failures_of self.new.keeper ≡ K.failures_of self.old.keeper }
-        ensures honest { K.is_honest self.new.keeper → K.is_honest self.old.keeper }
-        ensures home { K.home_of self.new.keeper ≡ K.home_of self.old.keeper }
     {
         if self.is_down {
             return false;

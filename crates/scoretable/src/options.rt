@@ -3,7 +3,7 @@
 use clap::builder::ValueParser;
 use clap::{Arg, ArgAction, ArgMatches, Command, Error};
 use command_line::borrowed;
-use competition_file::{CompetitionFile, file_given};
+use competition_file::file_given;
 use fault_hints::{explain_listening, is_wanted};
 use hall_file::hall_options::{
     FoundHall, Mistake, address_at, hall_of, option, tell, tell_mistake, tell_parse_error,
@@ -66,11 +66,12 @@ and without that option it is setup.txt, if there is one. Only who opens the rou
 
 Of the competition's file of --wcif, a WCIF, the scorecards of http://ADDR/scorecards/333-1 have the
 WCA ID, the group and the station, and come in that order; a time far below the best that it knows
-is asked about once; http://ADDR/before says what is open before the results are sent in; and
-without SETUP later rounds are proposed as the file has them at the start. Nothing is entered that
-would not be entered without it. A newer file of the same competition at its path takes its place
-some seconds later; where it is damaged, or of another competition, standard error gets a line that
-says so, and the file before is kept.
+is asked about once; http://ADDR/before says what is open before the results are sent in,
+http://ADDR/records/333-1 which results of a round are personal records; http://ADDR/labels has a
+label for each competitor; and without SETUP later rounds are proposed as the file has them. Nothing
+is entered that would not be entered without it. A newer file of the same competition at its path
+takes its place some seconds later; where it is damaged, or of another competition, standard error
+gets a line that says so, and the file before is kept.
 
 The desks are those of --hall and --to, or without these all desks of the hall that FILE describes.
 Where they have a key, it is in the file of --key, or in the one that FILE names. Standard error
@@ -286,26 +287,6 @@ fn tell_listening<F: Write>(
     status
 }
 
-/// What is proposed: these lines, or where there are none what the competition's file says.
-fn proposals_with(
-    alloc: Global,
-    lines: Vec<u8>,
-    competition: Option<&CompetitionFile>,
-) -> Result<Vec<u8>, AllocError> {
-    match competition {
-        Some(file) if lines.is_empty() => file.proposals(alloc),
-        _ => Ok(lines),
-    }
-}
-
-/// The competition's file at the path of `--wcif`, which a newer one may replace.
-fn renewed_of<'a>(rt: &HostRuntime, found: &ArgMatches<'a>) -> Option<RenewedFile<'a>> {
-    match found.get_str("wcif") {
-        Some(path) => Some(RenewedFile::new(rt, path)),
-        None => None,
-    }
-}
-
 /// Listens and serves until the system fails, and returns the status.
 fn run_order<W: Write, F: Write>(
     rt: &HostRuntime,
@@ -327,13 +308,11 @@ fn run_order<W: Write, F: Write>(
         let why = "the journal's last line was cut off: left out";
         let _ = writeln!(faults, "{PROGRAM}: {why}");
     }
-    let mut renewed = renewed_of(rt, found);
-    let competition = match file_given(rt, found.get_str("wcif"), PROGRAM, faults) {
+    let wcif = found.get_str("wcif");
+    let mut renewed = RenewedFile::at(rt, wcif);
+    let competition = match file_given(rt, wcif, PROGRAM, faults) {
         Ok(competition) => competition,
         Err(status) => return status,
-    };
-    let Ok(proposals) = proposals_with(alloc, proposals, competition.as_ref()) else {
-        return tell(faults, PROGRAM, "no memory", 5);
     };
     let mut config = Config::default();
     config.limits.max_head_len = LONGEST_HEAD;

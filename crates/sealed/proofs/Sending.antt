@@ -10,7 +10,7 @@ use Rattle.sealed.specs.declared.callers.StreamRefusal.TheVariants.{Unsealed, No
 use Rattle.sealed.specs.{Fronts.IsPrefaced, ServerSeals.held_by, Tunnels.SealsAll, Tunnels.TunnelOf}
 use Rattle.sealed.specs.ServerSeals.{ServerSealOf, SendsPlain, Stands, StandsAt, StandsPassing}
 use Rattle.sealed.specs.ServerSeals.{StandsReading, StandsTrying, IsOfLocks, SendsBy, caller_by}
-use Rattle.sealed.specs.{ServerSeals.KeepsCaller, Sent.SentPlain, Sent.from_start, Sent.key_for}
+use Rattle.sealed.specs.Sent.{SentPlain, from_start, key_for}
 use Rattle.sealed.{specs.ServerSeals.caller_of, proofs.Lawful.seals_on, proofs.Sealings.seals_none}
 use Rattle.sealed.specs.Sent.{HasSent, IsNew, IsSent, IsSentSealed, KeepsSent, SealingGoesOn}
 use Rattle.sealed.specs.Sent.{SealingReads, SendsWhatIsGiven, SentAs, SentBy, SentEntry, SentOver}
@@ -33,19 +33,6 @@ is_new_still old new same h = record {
   entry = same_new old.entry new.entry same.entry_sends h.entry;
 }
 
-over_same : (t u : TunnelOf) (given sent : List ℕ) → u.sealer ≡ t.sealer → SentOver t given sent
-    → SentOver u given sent
-over_same t u given sent is h =
-    subst (λ (s : Sealing). SealsAll given (from_start s) s sent) (sym is) h
-
-entry_same : (o n : Option TunnelOf) (given sent : List ℕ)
-    → option_map sends_by n ≡ option_map sends_by o → SentEntry o given sent
-    → SentEntry n given sent
-entry_same o None given sent same h = tt
-entry_same None (Some e) given sent same h = absurd cc
-entry_same (Some f) (Some e) given sent same h =
-    let is : e.sealer ≡ f.sealer = cc in over_same f e given sent is h
-
 -- a connection that sent nothing
 over_new : (t : TunnelOf) → t.sealer.number ≡ 0 → SentOver t [] []
 over_new t is =
@@ -63,45 +50,6 @@ new_as : (holder : Option Holder) (t : TrialOf) → IsNew t → SentAs holder t 
 new_as None t h = (refl, refl, h)
 new_as (Some Hall) t h = over_new t.hall h.hall
 new_as (Some Entry) t h = entry_over_new t.entry h.entry
-
-tried_as : (o : Option Holder) (t u : TrialOf) (given sent : List ℕ) → t.holder ≡ o
-    → IsSameTrial t u → SentAs o t given sent → SentAs u.holder u given sent
-tried_as None t u given sent is same h =
-    subst (λ (s : List ℕ). SentAs u.holder u s sent) (sym h.0)
-    (subst (λ (s : List ℕ). SentAs u.holder u [] s) (sym h.1)
-    (new_as u.holder u (is_new_still t u same h.2)))
-tried_as (Some Hall) t u given sent is same h =
-    let stays = same.stays (subst (λ (k : Option Holder). IsSome k) (sym is) refl) ∙ is in
-    subst (λ (k : Option Holder). SentAs k u given sent) (sym stays)
-    (over_same t.hall u.hall given sent same.hall_sends h)
-tried_as (Some Entry) t u given sent is same h =
-    let stays = same.stays (subst (λ (k : Option Holder). IsSome k) (sym is) refl) ∙ is in
-    subst (λ (k : Option Holder). SentAs k u given sent) (sym stays)
-    (entry_same t.entry u.entry given sent same.entry_sends h)
-
--- one more piece of a sealed stream
-pub keeps_tried : (old new : ServerSealOf) (t u : TrialOf) → old.trial ≡ Some t → new.trial ≡ Some u
-    → IsSameTrial t u → KeepsSent old new
-keeps_tried old new t u was is same given sent h =
-    let q = subst (λ (o : Option TrialOf). SentBy o old given sent) was h in
-    subst (λ (o : Option TrialOf). SentBy o new given sent) (sym is)
-    (tried_as t.holder t u given sent refl same q)
-
-held_still : (t u : TrialOf) → IsSameTrial t u → (o : Option Holder) → t.holder ≡ o
-    → IsSome (option_map held_by o) → option_map held_by u.holder ≡ option_map held_by o
-held_still t u same None was h = absurd (cc)
-held_still t u same (Some k) was h =
-    ap (λ (p : Option Holder). option_map held_by p)
-    (same.stays (subst (λ (p : Option Holder). IsSome p) (sym was) refl) ∙ was)
-
--- whoever was known to call does so still
-pub keeps_caller : (old new : ServerSealOf) (t u : TrialOf) → old.trial ≡ Some t
-    → new.trial ≡ Some u → IsSameTrial t u → KeepsCaller old new
-keeps_caller old new t u was is same h =
-    let some = subst (λ (o : Option TrialOf). IsSome (caller_by o old.passing)) was h in
-    ap (λ (o : Option TrialOf). caller_by o new.passing) is
-    ∙ held_still t u same t.holder refl some
-    ∙ sym (ap (λ (o : Option TrialOf). caller_by o old.passing) was)
 
 -- the first piece of one
 pub keeps_opened : (old new : ServerSealOf) (t : TrialOf) → old.trial ≡ None → old.passing ≡ None

@@ -100,13 +100,6 @@ tries_entry old new e f s x piece more was is there now same fed tries =
       subst (λ (t : TunnelOf). t.opener.fault ≢ None) (sym same) q.5,
     )
 
--- the entry key was chosen, and there is none: no trial is so
-pub tries_no_entry : (old new : TrialOf) (s x piece more : List ℕ) → old.holder ≡ Some Entry
-    → old.entry ≡ None → Tries s x old → Tries (s ++ piece) (x ++ more) new
-tries_no_entry old new s x piece more was none tries =
-    let q = subst (λ (h : Option Holder). TriesAs h s x old) was tries in
-    let bad : Some q.0 ≡ None = sym q.1 ∙ none in absurd cc
-
 -- the first record fits under the hall's key
 pub chooses_hall : (old new : TrialOf) (s x piece more : List ℕ) → old.holder ≡ None
     → new.holder ≡ Some Hall → Fed piece old.hall.opener new.hall.opener more → more ≢ []

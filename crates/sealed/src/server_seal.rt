@@ -1,6 +1,6 @@
 //! A desk's side of a connection.
 
-ghost use Rattle.std.specs.Prelude.{◌≡◌, ◌≢◌, [], None, Some, IfErr, IfOk, IsSome, OnErr, OnOk};
+ghost use Rattle.std.specs.Prelude.{◌≡◌, ◌≢◌, [], None, Some, IfErr, IfOk, OnErr, OnOk};
 ghost use Rattle.seal.specs.Records.{preface_of};
 ghost use Rattle.sealed.specs.ServerSeals.{Fails, IsSameDesk, KeepsCaller, Receives, Sends};
 ghost use Rattle.sealed.specs.ServerSeals.{caller_of, begun, first_passing, fresh_server_seal};
@@ -209,36 +209,6 @@ impl ServerSeal {
         }
     }
 
-    /// Takes the next piece of a sealed stream.
-    fn try_on(&mut self, piece: &[u8]) -> Result<Vec<u8>, NoMemory>
-        requires open { self.old.refusal ≡ None }
-        requires tried { IsSome self.old.trial }
-        ensures receives { IfOk result (λ more. Receives piece.now self.old self.new more.items) }
-        ensures sends { OnOk result (KeepsSent self.old self.new) }
-        ensures stays { KeepsCaller self.old self.new }
-        ensures same { IsSameDesk self.old self.new }
-    {
-        let Some(trial) = &mut self.trial else {
-            return Ok(Vec::new(self.alloc));
-        };
-        let handed = trial.feed(piece)?;
-        Ok(handed)
-    }
-
-    /// Takes the next piece of a stream that is let pass.
-    fn let_on(&mut self, piece: &[u8]) -> Result<Vec<u8>, NoMemory>
-        requires open { self.old.refusal ≡ None }
-        requires untried { self.old.trial ≡ None }
-        requires passes { IsSome self.old.passing }
-        ensures receives { IfOk result (λ more. Receives piece.now self.old self.new more.items) }
-        ensures sends { OnOk result (KeepsSent self.old self.new) }
-        ensures stays { KeepsCaller self.old self.new }
-        ensures same { IsSameDesk self.old self.new }
-    {
-        let handed = Vec::from_slice(self.alloc, piece)?;
-        Ok(handed)
-    }
-
     /// Takes the next piece of a stream that was not refused.
     fn take(&mut self, piece: &[u8]) -> Result<Vec<u8>, NoMemory>
         requires open { self.old.refusal ≡ None }
@@ -247,11 +217,15 @@ impl ServerSeal {
         ensures stays { KeepsCaller self.old self.new }
         ensures same { IsSameDesk self.old self.new }
     {
-        if self.trial.is_some() {
-            return self.try_on(piece);
+        if let Some(trial) = &mut self.trial {
+            let handed = trial.feed(piece)?;
+            return Ok(handed);
         }
         match self.passing {
-            Some(_) => self.let_on(piece),
+            Some(_) => {
+                let handed = Vec::from_slice(self.alloc, piece)?;
+                Ok(handed)
+            }
             None => self.begin(piece),
         }
     }

@@ -132,31 +132,6 @@ impl Trial {
         Ok(given)
     }
 
-    /// Takes the next piece where the stream is under the entry key.
-    fn feed_entry(&mut self, piece: &[u8]) -> Result<Vec<u8>, NoMemory>
-        requires { self.old.holder ≡ Some Holder.Entry }
-        ensures tries { IfOk result (λ r. (stream handed : List ℕ) → Tries stream handed self.old
-            → Tries (stream ++ piece.now) (handed ++ r.items) self.new) }
-        ensures same { IsSameTrial self.old self.new }
-    {
-        let Some(entry) = &mut self.entry else {
-            return Ok(Vec::new(self.alloc));
-        };
-        let handed = entry.feed(piece)?;
-        Ok(handed)
-    }
-
-    /// Takes the next piece where the stream is under the hall's key.
-    fn feed_hall(&mut self, piece: &[u8]) -> Result<Vec<u8>, NoMemory>
-        requires { self.old.holder ≡ Some Holder.Hall }
-        ensures tries { IfOk result (λ r. (stream handed : List ℕ) → Tries stream handed self.old
-            → Tries (stream ++ piece.now) (handed ++ r.items) self.new) }
-        ensures same { IsSameTrial self.old self.new }
-    {
-        let handed = self.hall.feed(piece)?;
-        Ok(handed)
-    }
-
     /// Takes the next piece of the stream, and hands on the bytes of the records that are whole now
     /// and fit. Where memory is refused, the stream is over, since one key may have seen the piece.
     pub fn feed(&mut self, piece: &[u8]) -> Result<Vec<u8>, NoMemory>
@@ -165,33 +140,19 @@ impl Trial {
         ensures same { IsSameTrial self.old self.new }
     {
         match self.holder {
-            Some(Holder::Hall) => self.feed_hall(piece),
-            Some(Holder::Entry) => self.feed_entry(piece),
+            Some(Holder::Hall) => {
+                let handed = self.hall.feed(piece)?;
+                Ok(handed)
+            }
+            Some(Holder::Entry) => {
+                let Some(entry) = &mut self.entry else {
+                    return Ok(Vec::new(self.alloc));
+                };
+                let handed = entry.feed(piece)?;
+                Ok(handed)
+            }
             None => self.choose(piece),
         }
-    }
-
-    /// What is sent of bytes under the hall's key.
-    fn seal_hall(&mut self, bytes: &[u8]) -> Result<Vec<u8>, SealFault>
-        requires { self.old.holder ≡ Some Holder.Hall }
-        ensures seals { IfOk result (λ sent. SealsFor bytes.now self.old self.new sent.items) }
-        ensures fails { IfErr result (λ e. FailsFor e bytes.now self.old) }
-    {
-        let sent = self.hall.seal(self.alloc, bytes)?;
-        Ok(sent)
-    }
-
-    /// What is sent of bytes under the entry key.
-    fn seal_entry(&mut self, bytes: &[u8]) -> Result<Vec<u8>, SealFault>
-        requires { self.old.holder ≡ Some Holder.Entry }
-        ensures seals { IfOk result (λ sent. SealsFor bytes.now self.old self.new sent.items) }
-        ensures fails { IfErr result (λ e. FailsFor e bytes.now self.old) }
-    {
-        let Some(entry) = &mut self.entry else {
-            return Ok(Vec::new(self.alloc));
-        };
-        let sent = entry.seal(self.alloc, bytes)?;
-        Ok(sent)
     }
 
     /// What is sent of bytes, under the key that the stream is sealed under. Until that is known
@@ -201,8 +162,17 @@ impl Trial {
         ensures fails { IfErr result (λ e. FailsFor e bytes.now self.old) }
     {
         match self.holder {
-            Some(Holder::Hall) => self.seal_hall(bytes),
-            Some(Holder::Entry) => self.seal_entry(bytes),
+            Some(Holder::Hall) => {
+                let sent = self.hall.seal(self.alloc, bytes)?;
+                Ok(sent)
+            }
+            Some(Holder::Entry) => {
+                let Some(entry) = &mut self.entry else {
+                    return Ok(Vec::new(self.alloc));
+                };
+                let sent = entry.seal(self.alloc, bytes)?;
+                Ok(sent)
+            }
             None => Ok(Vec::new(self.alloc)),
         }
     }

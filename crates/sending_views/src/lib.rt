@@ -6,4 +6,4 @@ mod named;
 mod open_lines;
 mod page;
 
-pub use page::before_page;
+pub use page::{NO_FILE, before_page};

@@ -21,7 +21,8 @@ const HEAD: &[u8] = b"\
 <p>What an export of the list so far over the competition's file would refuse or remark.</p>
 ";
 
-const NO_FILE: &[u8] = b"\
+/// What a page says that needs the competition's file, where there is none.
+pub const NO_FILE: &[u8] = b"\
 <p>This score table was started without the competition's file: start it with \
 <code>--wcif FILE</code>.</p>
 ";

@@ -1,3 +1,4 @@
 mod Blanks
+pub mod Helpers
 mod Ordered
 mod Walks

@@ -39,21 +39,21 @@ abbrev pub bests_of : List ℕ → List Command → CardEntry → FileBests
 bests_of file accepted card = bests_in file accepted card (unit_of card.id.event)
 
 -- a time is less than 0.8 of the competitor's best
-abbrev pub below_best_notes : ℕ → ℕ → Option ℕ → List CardNote
-below_best_notes attempt time None = []
-below_best_notes attempt time (Some best) =
+abbrev pub best_notes : ℕ → ℕ → Option ℕ → List CardNote
+best_notes attempt time None = []
+best_notes attempt time (Some best) =
     if nat_lt (10 * time) (8 * best) then BelowBest attempt time best ∷ [] else []
 
 -- a time is less than half of the best of those who are in the round
-abbrev pub below_field_notes : ℕ → ℕ → Option ℕ → List CardNote
-below_field_notes attempt time None = []
-below_field_notes attempt time (Some best) =
+abbrev pub field_notes : ℕ → ℕ → Option ℕ → List CardNote
+field_notes attempt time None = []
+field_notes attempt time (Some best) =
     if nat_lt (2 * time) best then BelowField attempt time best ∷ [] else []
 
 abbrev pub asked : FileBests → ℕ → Option ℕ → List CardNote
 asked bests attempt None = []
 asked bests attempt (Some time) =
-    below_best_notes attempt time bests.own ++ below_field_notes attempt time bests.field
+    best_notes attempt time bests.own ++ field_notes attempt time bests.field
 
 -- what is asked of the field of an attempt, if it is a time
 abbrev pub asked_of : FileBests → ℕ → Option Entered → List CardNote

@@ -4,3 +4,4 @@ pub mod Scorecards
 pub mod Seating
 pub mod Foot
 pub mod Lists
+pub mod Labels

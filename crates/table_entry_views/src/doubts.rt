@@ -1,7 +1,7 @@
 //! What a competition's file lets one ask of the times of a card.
 
 ghost use Rattle.std.specs.Prelude.{◌≡◌, ◌++◌, ◌<◌, ◌^◌, OnOk, length};
-ghost use Rattle.table_entry_views.specs.Doubts.{asked_of, below_best_notes, below_field_notes};
+ghost use Rattle.table_entry_views.specs.Doubts.{asked_of, best_notes, field_notes};
 ghost use Rattle.table_entry_views.specs.Doubts.{bests_of, file_notes, notes_from, own_best};
 ghost use Rattle.table_entry_views.specs.Doubts.{round_best};
 
@@ -68,7 +68,7 @@ fn note_best(
     best: Option<u32>,
 ) -> Result<(), NoMemory>
     requires { time < 2 ^ 33 }
-    ensures { OnOk result (notes.new.items ≡ notes.old.items ++ below_best_notes attempt time best) }
+    ensures { OnOk result (notes.new.items ≡ notes.old.items ++ best_notes attempt time best) }
 {
     match best {
         Some(best) if 10 * time < 8 * u64::from(best) => {
@@ -92,7 +92,7 @@ fn note_field(
     best: Option<u32>,
 ) -> Result<(), NoMemory>
     requires { time < 2 ^ 33 }
-    ensures { OnOk result (notes.new.items ≡ notes.old.items ++ below_field_notes attempt time best) }
+    ensures { OnOk result (notes.new.items ≡ notes.old.items ++ field_notes attempt time best) }
 {
     match best {
         Some(best) if 2 * time < u64::from(best) => {

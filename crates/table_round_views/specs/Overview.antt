@@ -12,7 +12,7 @@ use Rattle.markup.specs.Pieces.{fill}
 use Rattle.table_views.specs.{declared.around.PageContext.PageContext, Logs.accepted_in}
 use Rattle.table_views.specs.{Frame.top, Frame.bottom, Recent.recent_section}
 use Rattle.table_round_views.specs.declared.all_rounds.TheConstants.{BEFORE, LINK, ROW}
-use Rattle.table_round_views.specs.declared.all_rounds.TheConstants.{SECTION_HEAD}
+use Rattle.table_round_views.specs.declared.all_rounds.TheConstants.{SECTION_HEAD, SECTION_END}
 
 abbrev pub link_end : List ℕ → List ℕ
 link_end words = fill LINK.now (words ∷ [])
@@ -59,9 +59,7 @@ event_lines accepted event = flat_map (round_in accepted event) (1 ∷ 2 ∷ 3 �
 
 unfoldable pub section : List Command → List ℕ
 section accepted =
-    SECTION_HEAD.now
-    ++ flat_map (event_lines accepted) all_events
-    ++ codes "</tbody></table>\n<p><a href=\"/rounds\">Open a round</a></p></section>\n"
+    SECTION_HEAD.now ++ flat_map (event_lines accepted) all_events ++ SECTION_END.now
 
 -- the link to what is open before the results are sent in, where a competition's file is beside the
 -- list

@@ -100,15 +100,18 @@ const SECTION_HEAD: &[u8] = b"\
 <table><caption>How far each is</caption><tbody>
 ";
 
+const SECTION_END: &[u8] = b"\
+</tbody></table>
+<p><a href=\"/rounds\">Open a round</a> <a href=\"/labels\">Labels</a></p></section>
+";
+
 /// Adds the section of all rounds.
 fn push_section(out: &mut Vec<u8>, meet: &Meet) -> Result<(), NoMemory>
     ensures { OnOk result (out.new.items ≡ out.old.items ++ section meet.now.accepted) }
 {
     out.extend_from_slice(SECTION_HEAD)?;
     push_events(out, meet, &Event::ALL)?;
-    out.extend_from_slice(
-        b"</tbody></table>\n<p><a href=\"/rounds\">Open a round</a></p></section>\n",
-    )
+    out.extend_from_slice(SECTION_END)
 }
 
 const BEFORE: &[u8] = b"\

@@ -9,6 +9,7 @@ use Rattle.table_service.specs.declared.reading.Resource.TheVariants.{Page, Styl
 use Rattle.table_service.specs.declared.reading.TableView.TheVariants.{Overview, Card, Wall}
 use Rattle.table_service.specs.declared.reading.TableView.TheVariants.{Before, Scorecards, People, Import}
 use Rattle.table_service.specs.declared.reading.TableView.TheVariants.{History, Person, Rounds}
+use Rattle.table_service.specs.declared.reading.TableView.TheVariants.{Labels, Records}
 
 -- the round of a path below a folder
 abbrev pub round_below : List ℕ → List ℕ → Option RoundId
@@ -29,6 +30,7 @@ fixed path =
     else if bytes_eq path (codes "/people") then Some (Page People)
     else if bytes_eq path (codes "/import") then Some (Page Import)
     else if bytes_eq path (codes "/before") then Some (Page Before)
+    else if bytes_eq path (codes "/labels") then Some (Page Labels)
     else if bytes_eq path (codes "/table.css") then Some Style
     else if bytes_eq path (codes "/table.js") then Some Script
     else None
@@ -52,22 +54,23 @@ abbrev pub history_asked : List ℕ → RoundId → Option Resource
 history_asked query round =
     history_of round (number_if (number_of (value_of (codes "number") (pairs_of query))))
 
--- by the round of the path of a card, of a sheet for the wall, of blank cards, and of what was
--- entered for a competitor, and by the number of the path of a competitor
+-- by the round of the path of a card, of a sheet for the wall, of blank cards, of personal records,
+-- and of what was entered for a competitor, and by the number of the path of a competitor
 abbrev pub by_folder : List ℕ → Option RoundId → Option RoundId → Option RoundId → Option RoundId
-    → Option ℕ → Option Resource
-by_folder query (Some round) wall scorecards history person = Some (card_asked query round)
-by_folder query None (Some round) scorecards history person = Some (Page (Wall round))
-by_folder query None None (Some round) history person = Some (Page (Scorecards round))
-by_folder query None None None (Some round) person = history_asked query round
-by_folder query None None None None (Some number) = Some (Page (Person number))
-by_folder query None None None None None = None
+    → Option RoundId → Option ℕ → Option Resource
+by_folder query (Some round) wall scorecards records history person = Some (card_asked query round)
+by_folder query None (Some round) scorecards records history person = Some (Page (Wall round))
+by_folder query None None (Some round) records history person = Some (Page (Scorecards round))
+by_folder query None None None (Some round) history person = Some (Page (Records round))
+by_folder query None None None None (Some round) person = history_asked query round
+by_folder query None None None None None (Some number) = Some (Page (Person number))
+by_folder query None None None None None None = None
 
 abbrev pub in_folder : List ℕ → List ℕ → Option Resource
 in_folder path query =
     by_folder query (round_below (codes "/card/") path) (round_below (codes "/wall/") path)
-    (round_below (codes "/scorecards/") path) (round_below (codes "/history/") path)
-    (number_below (codes "/person/") path)
+    (round_below (codes "/scorecards/") path) (round_below (codes "/records/") path)
+    (round_below (codes "/history/") path) (number_below (codes "/person/") path)
 
 abbrev pub asked_by : Option Resource → Bool → List ℕ → List ℕ → Option Resource
 asked_by (Some asked) rounds path query = Some asked

@@ -1,6 +1,6 @@
 -- The pages that are made of the mirror (the project's own).
 use Rattle.std.specs.Prelude.{◌≡◌, ℕ, ◌+◌, ◌-◌, Bool, true, false, nat_lt, List, [], ◌∷◌, Option}
-use Rattle.std.specs.Prelude.{None, Some, get_or, is_some, length, map, min, slice_get}
+use Rattle.std.specs.Prelude.{◌++◌, None, Some, codes, get_or, is_some, length, map, min, slice_get}
 use Rattle.std.specs.Option.{option_copied}
 use Rattle.acceptor.specs.declared.entry.Entry.{Entry}
 use Rattle.card_forms.specs.Readings.{number_of}
@@ -14,12 +14,15 @@ use Rattle.table_round_views.specs.{Overview.overview, Rounds.rounds_page}
 use Rattle.table_people_views.specs.Waiting.{waiting_page}
 use Rattle.last_change.specs.Changes.{IsLastChange}
 use Rattle.last_change.specs.Entering.{AreLastEntering, places, text_enters}
-use Rattle.table_entry_views.specs.paper.{Scorecards.IsScorecards, Wall.IsWallSheet}
+use Rattle.table_entry_views.specs.paper.{Labels.labels_page, Scorecards.IsScorecards}
+use Rattle.table_entry_views.specs.paper.{Wall.IsWallSheet}
 use Rattle.table_views.specs.{declared.around.PageContext.PageContext, Logs.accepted_in}
-use Rattle.table_views.specs.Standing.{standing}
+use Rattle.table_views.specs.{Frame.bottom, Frame.top, Recent.recent_section, Standing.standing}
 use Rattle.scorecard.specs.Typed.{entered_typed}
-use Rattle.sending_views.specs.Page.{IsBeforePage}
-use Rattle.texts.specs.declared.command.{Entered.Entered, RoundId.RoundId}
+use Rattle.sending_views.specs.{Page.IsBeforePage, declared.page.TheConstants.NO_FILE}
+use Rattle.record_views.specs.Records.{records}
+use Rattle.competition_file.specs.Files.{data_of}
+use Rattle.texts.specs.declared.command.{Command.Command, Entered.Entered, RoundId.RoundId}
 use Rattle.texts.specs.Fields.{cut_remark}
 use Rattle.table_service.specs.{Asked.number_if, declared.reading.TableView.TableView}
 use Rattle.outbox.specs.declared.state.ItemState.TheVariants as state
@@ -138,6 +141,16 @@ abbrev pub IsBefore : PageContext → Option (List ℕ) → Option (List ℕ) �
 IsBefore around file None = ⊥
 IsBefore around file (Some page) = IsBeforePage around file page
 
+-- the section of a round's personal records by the competition's file, or that there is none
+abbrev pub records_beside : Option (List ℕ) → List Command → RoundId → List ℕ
+records_beside None accepted round = NO_FILE.now
+records_beside (Some file) accepted round = records (data_of file) accepted round
+
+abbrev pub records_page : PageContext → Option (List ℕ) → RoundId → List ℕ
+records_page around file round =
+    top (codes "hall") (codes "Personal records") around
+    ++ records_beside file (accepted_in around.mirror.now) round ++ recent_section around ++ bottom
+
 -- this is the page, under the title of the hall, with the competition's file where there is one;
 -- none where its round was not opened, or where nobody has its number
 abbrev pub IsPage : ItemsOf → PageContext → List ℕ → Option (List ℕ) → TableView → Option (List ℕ)
@@ -147,6 +160,9 @@ IsPage q around title file view.People page = IsPeople around page
 IsPage q around title file (view.Person number) page = page ≡ person_page around number
 IsPage q around title file view.Import page = page ≡ Some (import_page around)
 IsPage q around title file view.Before page = IsBefore around file page
+IsPage q around title file view.Labels page =
+    page ≡ Some (labels_page (accepted_in around.mirror.now) file)
+IsPage q around title file (view.Records round) page = page ≡ Some (records_page around file round)
 IsPage q around title file (view.Rounds round) page = page ≡ Some (rounds_page around round)
 IsPage q around title file (view.Card round number) page =
     IsCardAfter around.waits q around round (draft_of number) page

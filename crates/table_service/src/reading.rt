@@ -32,6 +32,10 @@ pub(crate) enum TableView {
     Import,
     /// `/before`: what is open before the results are sent in.
     Before,
+    /// `/labels`: labels for all competitors.
+    Labels,
+    /// `/records/333-1`: which results of a round are personal records.
+    Records(RoundId),
     /// `/rounds`, of one round where `?round=333-1` names one.
     Rounds(Option<RoundId>),
 }
@@ -78,6 +82,8 @@ fn fixed(path: &[u8]) -> Option<Resource>
         Some(Resource::Page(TableView::Import))
     } else if path == b"/before".as_slice() {
         Some(Resource::Page(TableView::Before))
+    } else if path == b"/labels".as_slice() {
+        Some(Resource::Page(TableView::Labels))
     } else if path == b"/table.css".as_slice() {
         Some(Resource::Style)
     } else if path == b"/table.js".as_slice() {
@@ -127,6 +133,9 @@ fn in_folder(alloc: Global, path: &[u8], query: &[u8]) -> Result<Option<Resource
     }
     if let Some(round) = round_below(path, b"/scorecards/") {
         return Ok(Some(Resource::Page(TableView::Scorecards(round))));
+    }
+    if let Some(round) = round_below(path, b"/records/") {
+        return Ok(Some(Resource::Page(TableView::Records(round))));
     }
     if let Some(round) = round_below(path, b"/history/") {
         return history_asked(alloc, query, round);

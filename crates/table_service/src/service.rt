@@ -21,7 +21,7 @@ use acceptor::NoMemory;
 use acceptor::entry::Entry;
 use bytes::Bytes;
 use card_forms::FormId;
-use competition_file::RenewFault;
+use competition_file::{CompetitionFile, RenewFault};
 use desk_sockets::{DeskStream, DialogueChange};
 use http::Request;
 use http_server::{Response, Service};
@@ -246,6 +246,20 @@ impl<D: Disk> TableService<D> {
             Some(file) => file.renew(self.alloc, bytes),
             None => Ok(()),
         }
+    }
+
+    /// The competition's file, where there is one.
+    pub fn competition(&self) -> Option<&CompetitionFile>
+        ensures { option_copied result ≡ self.now.competition }
+    {
+        self.setup.competition.as_ref()
+    }
+
+    /// Proposes from now on how later rounds are held as the comments of these commands say.
+    pub fn propose(&mut self, proposals: Vec<u8>)
+        ensures { self.new ≡ record self.old { proposals = proposals.items } }
+    {
+        self.setup.proposals = proposals;
     }
 
     /// Says how the desks are doing.

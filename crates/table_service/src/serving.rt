@@ -38,23 +38,39 @@ fn clock_of<R: Clock>(runtime: &R) -> Option<u64> {
     }
 }
 
-/// Takes a newer competition's file in place of the one before, where its path has one.
+/// Proposes how later rounds are held as the competition's file has them, where there is one.
+fn propose<D: Disk>(alloc: Global, service: &mut TableService<D>) -> Result<(), AllocError> {
+    if let Some(file) = service.competition() {
+        let proposals = file.proposals(alloc)?;
+        service.propose(proposals);
+    }
+    Ok(())
+}
+
+/// Takes a newer competition's file in place of the one before, where its path has one, and then
+/// its proposals, where they are those of the file.
 fn renew<D: Disk, R: Files, F: Write>(
     runtime: &R,
     alloc: Global,
     service: &mut TableService<D>,
     renewed: &mut Option<RenewedFile<'_>>,
+    proposes: bool,
     now: u64,
     faults: &mut F,
-) {
+) -> Result<(), AllocError> {
     let Some(file) = renewed else {
-        return;
+        return Ok(());
     };
     let Some(bytes) = file.newer(runtime, alloc, now, PROGRAM, faults) else {
-        return;
+        return Ok(());
     };
-    if let Err(fault) = service.renew(bytes) {
-        file.tell_fault(PROGRAM, &fault, faults);
+    match service.renew(bytes) {
+        Ok(()) if proposes => propose(alloc, service),
+        Ok(()) => Ok(()),
+        Err(fault) => {
+            file.tell_fault(PROGRAM, &fault, faults);
+            Ok(())
+        }
     }
 }
 
@@ -67,6 +83,7 @@ fn serve_on<D: Disk, R: Net + RandomSource + Clock + Files + Drop, W: Write, F: 
     service: &mut TableService<D>,
     side: &mut DesksSide<'_, R>,
     renewed: &mut Option<RenewedFile<'_>>,
+    proposes: bool,
     writer: &mut W,
     faults: &mut F,
 ) -> io::Result<ScoreTableEnd> {
@@ -84,7 +101,7 @@ fn serve_on<D: Disk, R: Net + RandomSource + Clock + Files + Drop, W: Write, F: 
         };
         now = after;
         service.set_time(now);
-        renew(runtime, alloc, service, renewed, now, faults);
+        renew(runtime, alloc, service, renewed, proposes, now, faults)?;
         if !side.keep(service, now, faults)? {
             return Ok(ScoreTableEnd::Broken);
         }
@@ -147,9 +164,10 @@ fn side_of<'a, R: Net + RandomSource + Clock + Drop>(
 }
 
 /// Says where it listens, and serves the pages of a hall under this title, for the table of this
-/// name, with the proposals of these commands' comments and with the competition's file, over this
-/// journal, to these browsers until it can't continue. What is wrong with the key of a desk, or
-/// with a newer competition's file, is said on a line of `faults`.
+/// name, with the proposals of these commands' comments, or, where there are no commands, of the
+/// competition's file, and with that file, over this journal, to these browsers until it can't
+/// continue. What is wrong with the key of a desk, or with a newer competition's file, is said on a
+/// line of `faults`.
 pub fn serve<'a, R: Net + RandomSource + Clock + Files + Drop, W: Write, F: Write>(
     runtime: &'a R,
     alloc: Global,
@@ -165,6 +183,7 @@ pub fn serve<'a, R: Net + RandomSource + Clock + Files + Drop, W: Write, F: Writ
     faults: &mut F,
 ) -> io::Result<ScoreTableEnd> {
     let address = browsers.sockets().address()?;
+    let proposes = proposals.is_empty();
     let service = service_of(
         runtime,
         alloc,
@@ -176,8 +195,11 @@ pub fn serve<'a, R: Net + RandomSource + Clock + Files + Drop, W: Write, F: Writ
         competition,
         opened,
     )?;
+    if proposes {
+        propose(alloc, service)?;
+    }
     let side = side_of(runtime, alloc, hall, browsers)?;
     serve_on(
-        runtime, alloc, browsers, service, side, renewed, writer, faults,
+        runtime, alloc, browsers, service, side, renewed, proposes, writer, faults,
     )
 }

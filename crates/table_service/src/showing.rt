@@ -1,24 +1,27 @@
 //! The pages that are made of the mirror.
 
-ghost use Rattle.std.specs.Prelude.{◌≡◌, IfOk};
+ghost use Rattle.std.specs.Prelude.{◌≡◌, ◌++◌, IfOk, OnOk};
 ghost use Rattle.std.specs.Option.{option_copied, option_map};
-ghost use Rattle.table_service.specs.Pages.{IsPage, draft_of};
+ghost use Rattle.table_service.specs.Pages.{IsPage, draft_of, records_beside, records_page};
 ghost use Rattle.table_service.specs.{Plans.PlansRead, Replying.ShowsIf, Requests.query_of};
 
 use crate::plan::{PageReply, PageStatus, Problem, RequestPlan};
 use crate::reading::{Resource, TableView, asked_at};
 use crate::waiting::card_after;
 use bytes::Bytes;
+use commands::Meet;
 use competition_file::CompetitionFile;
 use http::Request;
 use outbox::Outbox;
-use sending_views::before_page;
+use record_views::push_records;
+use sending_views::{NO_FILE, before_page};
 use std::alloc::{AllocError, Global};
-use table_entry_views::paper::{scorecards, wall_sheet};
+use table_entry_views::paper::{labels_page, scorecards, wall_sheet};
 use table_entry_views::{Draft, history_page};
 use table_people_views::{import_page, people_page, person_page};
 use table_round_views::{overview, rounds_page};
-use table_views::PageContext;
+use table_views::{PageContext, push_end, start_page};
+use texts::RoundId;
 
 /// What a card is filled in with that is asked for.
 fn draft_of<'a>(number: Option<u16>) -> Draft<'a>
@@ -28,6 +31,38 @@ fn draft_of<'a>(number: Option<u16>) -> Draft<'a>
         Some(number) => Draft::Number(number),
         None => Draft::Empty,
     }
+}
+
+/// Adds the section of a round's personal records by the competition's file, or that there is none.
+fn push_records_beside(
+    out: &mut Vec<u8>,
+    competition: Option<&CompetitionFile>,
+    meet: &Meet,
+    round: RoundId,
+) -> Result<(), AllocError>
+    ensures { OnOk result (out.new.items ≡ out.old.items
+        ++ records_beside (option_copied competition.entry) meet.now.accepted round) }
+{
+    match competition {
+        Some(file) => push_records(out, file, meet, round),
+        None => out.extend_from_slice(NO_FILE),
+    }
+}
+
+/// The page of a round's personal records.
+fn records_page(
+    alloc: Global,
+    around: &PageContext<'_>,
+    competition: Option<&CompetitionFile>,
+    round: RoundId,
+) -> Result<Vec<u8>, AllocError>
+    ensures { IfOk result (λ page. page.items
+        ≡ records_page around.entry.now (option_copied competition.entry) round) }
+{
+    let mut page = start_page(alloc, around, b"Personal records")?;
+    push_records_beside(&mut page, competition, around.mirror.meet(), round)?;
+    push_end(&mut page, around)?;
+    Ok(page)
 }
 
 /// A page. None where its round was not opened, or where nobody has its number.
@@ -47,6 +82,8 @@ fn page_of(
         TableView::People => Ok(Some(people_page(alloc, around)?)),
         TableView::Person(number) => person_page(alloc, around, number),
         TableView::Before => Ok(Some(before_page(alloc, around, competition)?)),
+        TableView::Labels => Ok(Some(labels_page(alloc, around, competition)?)),
+        TableView::Records(round) => { Ok(Some(records_page(alloc, around, competition, round)?)) }
         TableView::Import => Ok(Some(import_page(alloc, around)?)),
         TableView::Rounds(round) => Ok(Some(rounds_page(alloc, around, round)?)),
         TableView::Card { round, number } => {

@@ -84,6 +84,9 @@ th, td { padding: .15rem .4rem; border-bottom: 1px solid var(--line); text-align
 #round tbody tr { content-visibility: auto; contain-intrinsic-size: auto 1.7rem; }
 #round th:nth-child(3), #round td:nth-child(3), body.hall th, body.hall td { text-align: left; }
 #round td:nth-child(3) { overflow-wrap: anywhere; min-width: 8rem; unicode-bidi: plaintext; }
+#round td[data-country]::after { content: \" \" attr(data-country); font-size: .75em; }
+#round td[data-record]::before, td.pr::before { content: \"PR \"; font-size: .6em;
+  vertical-align: .4em; }
 #round td:last-child, #round th:last-child { display: none; }
 tr.absent { background: var(--soft); }
 tr.begun td:first-child { border-left: .3rem solid var(--wait); }
@@ -164,7 +167,8 @@ body.scorecards main { display: grid; grid-template-columns: 1fr 1fr; grid-auto-
 ";
 
 /// What a script adds: Enter goes from field to field and submits without waiting, each field says
-/// what it reads, and the round and the last cards keep up.
+/// what it reads, and the round and the last cards keep up. What the competition's file says of the
+/// round, if there is a file, is asked for at most once for each change of the round.
 const SCRIPT: &str = "\
 'use strict'; // What a script adds to the pages of the score table. Each page works without it.
 const $ = (id) => document.getElementById(id);
@@ -689,6 +693,27 @@ function point() {
   for (const row of all('#round .current')) if (row !== now) row.classList.remove('current');
   if (now) now.classList.add('current');
 }
+// Marks which results of the round are personal records by the competition's file, and adds the
+// countries. Where the table has no file, it is asked once.
+let isMarked = false, hasFile = true;
+async function markRecords() {
+  if (isMarked || !hasFile) return;
+  isMarked = true;
+  const answer = await fetch('/records/' + form.elements.round.value).catch(() => ({}));
+  const page = pageOf(answer.ok ? await answer.text() : '');
+  hasFile = !answer.ok || page.querySelector('.records') !== null;
+  for (const it of all('tr[data-number]', page)) {
+    const row = rowOf(it.dataset.number);
+    if (!row) continue;
+    row.cells[2].dataset.country = it.cells[1].textContent;
+    for (const at of [3, 4]) {
+      const its = it.cells[7 - at], same = its.textContent === cell(row, at);
+      const is = same && its.className === 'pr';
+      row.cells[at].toggleAttribute('data-record', is);
+      row.cells[at].title = is ? \"personal record by the competition's file\" : '';
+    }
+  }
+}
 // Puts what was entered of late in the place of what is shown.
 function replaceRecent(page) {
   const now = page.getElementById('recent');
@@ -711,6 +736,7 @@ function replaceRound(page, text) {
   for (const { number, place, html } of lines) {
     let row = before.get(number);
     if (!row || shown.rows.get(number) !== html) {
+      isMarked = false;
       made.innerHTML = html;
       row = become(row, made.firstElementChild);
     }
@@ -881,7 +907,7 @@ function takePage(text, turn) {
   if (next.dataset.format !== rules.format && !isTyped()) return location.reload();
   Object.assign(form.dataset, next.dataset);
   if (spare.length < 8) spare = next.dataset.spare.trim().split(' ');
-  replaceFront(page), keepUp(), mark();
+  replaceFront(page), keepUp(), mark(), markRecords();
 }
 // Looks what was entered of late, which each page has, and that of `/import` is small whatever the
 // rounds are; and at the page itself where the log has grown: at once where all that was sent is
@@ -980,7 +1006,7 @@ function begin() {
   sure = form.elements.sure ? form.elements.sure.value : '';
   whose = $('number').value;
   if (rules.unit === 'moves') learn();
-  update(), mark(), recheck();
+  update(), mark(), recheck(), markRecords();
 }
 // The scrambles of the round.
 async function learn() {

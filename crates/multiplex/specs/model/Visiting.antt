@@ -4,18 +4,22 @@ use Rattle.std.specs.Prelude.{Option, None, Some}
 use Rattle.answers.specs.{declared.desk.Desk.Ghosts as DeskOf, Seen.Seen, Seen.settled}
 use Rattle.serving.specs.{declared.peers.Peers.Ghosts as PeersOf, Making.speaking, Sessions.outside}
 use Rattle.connections.specs.Connections.{AreServedInTurn, Point, Served, begun_of}
-use Rattle.serving.specs.{Connection.Begun, TurnLaw.Turn, TurnLaw.begun_in}
+use Rattle.serving.specs.{Connection.Begun, Connection.frames_of, TurnLaw.Turn, TurnLaw.begun_in}
+use Rattle.serving.specs.{Kinds.message_next, Turns.Talk, Turns.new_talk}
+use Rattle.serving.specs.Turns.{IsFree as IsFreeTalk, Receives as Brings}
 use Rattle.guarded.specs.LockedConnections.{LockedConnectionOf, IsDear, IsDone, IsFree, Receives}
 use Rattle.guarded.specs.LockedConnections.{Moment, WantsRead, after_sent}
 use Rattle.guarded.specs.LockedTurns.{Follow, Place}
 use Rattle.wire.specs.declared.{values.Version.Version, standing.Difference.Difference}
+use Rattle.wire.specs.declared.frame.Frame.{Frame}
 use Rattle.polled.specs.Telling.{Tells}
 use Rattle.polled.specs.Happenings.{Happened, Gave, Took, Broke}
 use Rattle.multiplex.specs.Passing.{AreMessages, IsFate, IsLeft, Settled, Shares, SharesLast}
 use Rattle.multiplex.specs.Passing.{pieces, told_why, told_turns}
 use Rattle.store.specs.declared.home.Home.{Home}
 use Rattle.multiplex.specs.Noting.{AreDue, Ears, IsHeard, IsOff, PutsOff, ears, hear_all}
-use Rattle.multiplex.specs.{model.Ticks.Desks, declared.ends.EndReason.EndReason}
+use Rattle.multiplex.specs.model.Ticks.{Desks, desks}
+use Rattle.multiplex.specs.declared.ends.EndReason.{EndReason}
 use Rattle.multiplex.specs.declared.{dear.DearTurns.DearTurns, notes.Notes.Notes}
 use Rattle.multiplex.specs.declared.ends.EndReason.TheVariants as why
 
@@ -102,6 +106,49 @@ abbrev pub HearsOwn : {V U : Type 0} → DeskOf V → PeersOf U → Version → 
     → Type 0
 HearsOwn d p version home a b =
     (heard : List Served) × HearsThese d p version home heard a b
+
+-- such frames were served, and they were the first of those that waited
+pub record HearsFirst {V U : Type 0} (d : DeskOf V) (p : PeersOf U) (version : Version)
+    (home : Home) (waiting left : List Frame) (a b : Desks V U) : Type 0 where
+  pub heard : List Served
+  pub served : HearsThese d p version home heard a b
+  pub first : waiting ≡ frames_of (begun_of heard) ++ left
+
+-- the messages of desks were served that a connection brought, until another frame is next, or
+-- none, unless the connection ended
+pub record HearsNext {V U : Type 0} (d : DeskOf V) (p : PeersOf U) (old new : Talk)
+    (a b : Desks V U) : Type 0 where
+  pub first : HearsFirst d p old.wire old.home old.waiting new.waiting a b
+  pub all : IsFreeTalk new → message_next new.waiting ≡ false
+
+-- they were, of a connection that brought these bytes
+abbrev pub HearsBytes : {V U : Type 0} → DeskOf V → PeersOf U → Version → Home → List ℕ
+    → Desks V U → Desks V U → Type 0
+HearsBytes d p version home bytes a b =
+    (came : Talk) × (left : Talk) × Brings bytes (new_talk home version) came
+    × HearsNext d p came left a b
+
+-- what waited waits no more, and it was heard so, unless memory was refused for a connection
+pub record HearsAll {V U : Type 0} (d : DeskOf V) (p : PeersOf U) (waits : U → List ℕ)
+    (version : Version) (home : Home) (a b : Desks V U) : Type 0 where
+  pub taken : U
+  pub none : waits taken ≡ []
+  pub handed : p.handed taken ≡ p.handed a.peers
+  pub heard : (b ≡ desks a.node taken)
+      ⊎ HearsBytes d p version home (waits a.peers) (desks a.node taken) b
+
+-- it was, or nothing is to be heard now
+abbrev pub HearsWhere : {V U : Type 0} → DeskOf V → PeersOf U → (U → List ℕ) → Bool → Version → Home
+    → Desks V U → Desks V U → Type 0
+HearsWhere d p waits true version home a b = HearsAll d p waits version home a b
+HearsWhere d p waits false version home a b = b ≡ a
+
+-- it was, and what was changed by then is settled, or that failed
+abbrev pub HearsThenSettles : {V U : Type 0} → DeskOf V → PeersOf U → (U → List ℕ) → Bool → Version
+    → Home → Bool → Desks V U → V → Type 0
+HearsThenSettles {V} {U} d p waits hears version home ok a node =
+    (between : Desks V U) × HearsWhere d p waits hears version home a between
+    × d.settles between.node ok node
 
 -- such frames were served, and what was changed by then is settled, or that failed; nothing more
 -- was handed over by that

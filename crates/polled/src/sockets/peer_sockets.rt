@@ -8,7 +8,7 @@ ghost use Rattle.polled.specs.sockets.Sockets.{IsFresh, LetsIn, OthersStay, Same
 ghost use Rattle.polled.specs.sockets.Sockets.{SameStay, is_full, stays};
 
 use crate::sockets::agenda::Agenda;
-use crate::sockets::outcomes::accepted_by;
+use crate::sockets::outcomes::{accepted_by, given_by, taken_by};
 use crate::sockets::random::drawn;
 use crate::sockets::streams::{MOST_ENDING, Streams};
 use crate::sockets::tokens::{PolledSocket, listener_token, peer_token, source_of};
@@ -18,7 +18,7 @@ use mio::{Events, Interest, Poll, Registry};
 use prompt_lines::PromptLines;
 use std::alloc::Global;
 use std::io;
-use std::io::Write;
+use std::io::{Read, Write};
 use std::marker::Model;
 use std::net::{Net, SocketAddr};
 use std::random::RandomSource;
@@ -340,7 +340,10 @@ impl<R: Clock + RandomSource> Sockets for PeerSockets<'_, R> {
         ensures closed { stays self.old number ≡ false → result ≡ ReadOutcome.Broke }
         ensures same { self.new ≡ self.old }
     {
-        self.streams.read(number, buffer)
+        let Some(mut source) = self.streams.staying.get(&number) else {
+            return ReadOutcome::Broke;
+        };
+        given_by(source.read(buffer))
     }
 
     fn write(&mut self, number: u64, bytes: &[u8]) -> WriteOutcome
@@ -348,7 +351,10 @@ impl<R: Clock + RandomSource> Sockets for PeerSockets<'_, R> {
         ensures closed { stays self.old number ≡ false → result ≡ WriteOutcome.Broke }
         ensures same { self.new ≡ self.old }
     {
-        self.streams.write(number, bytes)
+        let Some(mut sink) = self.streams.staying.get(&number) else {
+            return WriteOutcome::Broke;
+        };
+        taken_by(sink.write(bytes))
     }
 
     fn watch(&mut self, number: u64, writes: bool) -> bool

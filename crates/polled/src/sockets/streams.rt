@@ -1,17 +1,15 @@
 //! The peers' sockets: those of open connections, and those of connections that are ending.
 
-ghost use Rattle.std.specs.Prelude.{◌≡◌, ◌≤◌, [], false, length, true, IfOk};
-ghost use Rattle.polled.specs.Counts.{CountsGiven, CountsTaken};
+ghost use Rattle.std.specs.Prelude.{◌≡◌, ◌≤◌, [], false, true, IfOk};
 ghost use Rattle.indexmap.specs.IndexMap.{index_map_len};
 
-use crate::sockets::outcomes::{given_by, is_waiting, taken_by};
+use crate::sockets::outcomes::is_waiting;
 use crate::sockets::tokens::peer_token;
-use crate::{ReadOutcome, WriteOutcome};
 use indexmap::IndexMap;
 use mio::net::TcpStream;
 use mio::{Interest, Registry};
 use std::alloc::{AllocError, Global};
-use std::io::{Read, Write};
+use std::io::Read;
 use std::net::Shutdown;
 
 /// The most connections that are ending at once.
@@ -50,7 +48,7 @@ fn goes_on(mut stream: &TcpStream) -> bool {
 /// of connections that are ending.
 #[derive(Drop)]
 pub struct Streams {
-    staying: IndexMap<u64, TcpStream>,
+    pub staying: IndexMap<u64, TcpStream>,
     ending: IndexMap<u64, EndingStream>,
     /// The most connections that are open at once.
     pub most: usize,
@@ -116,30 +114,6 @@ impl Streams {
         let _ = stream.set_nodelay(true);
         let told = registry.register(&mut stream, token, Interest::READABLE);
         told.is_ok() && self.staying.insert(number, stream).is_ok()
-    }
-
-    /// Reads once of a peer.
-    pub fn read(&mut self, number: u64, buffer: &mut [u8; 4096]) -> ReadOutcome
-        ensures count { CountsGiven (length buffer.new) result }
-        ensures closed { is_open self.old number ≡ false → result ≡ ReadOutcome.Broke }
-        ensures same { self.new ≡ self.old }
-    {
-        match self.staying.get(&number) {
-            Some(mut stream) => given_by(stream.read(buffer)),
-            None => ReadOutcome::Broke,
-        }
-    }
-
-    /// Writes once to a peer.
-    pub fn write(&mut self, number: u64, bytes: &[u8]) -> WriteOutcome
-        ensures count { CountsTaken (length bytes.now) result }
-        ensures closed { is_open self.old number ≡ false → result ≡ WriteOutcome.Broke }
-        ensures same { self.new ≡ self.old }
-    {
-        match self.staying.get(&number) {
-            Some(mut stream) => taken_by(stream.write(bytes)),
-            None => WriteOutcome::Broke,
-        }
     }
 
     /// Asks the system to tell when a peer can take bytes, or else when it can be read from.

@@ -1,20 +1,36 @@
 //! Who scrambles, runs and judges in each group of a round.
 
-ghost use Rattle.std.specs.Prelude.{◌≡◌, ◌++◌, OnOk, flat_map, map};
+ghost use Rattle.std.specs.Prelude.{◌≡◌, ◌++◌, IfOk, OnOk, flat_map, map};
+ghost use Rattle.std.specs.List.{list_any};
 ghost use Rattle.std.specs.Option.{option_copied};
 ghost use Rattle.serde_json.specs.View.{view};
+ghost use Rattle.competition_file.specs.Duties.{duties_of, is_this};
 ghost use Rattle.table_entry_views.specs.paper.Lists.{duty_list, duty_words, group_list, lists};
 ghost use Rattle.table_entry_views.specs.paper.Lists.{list_start, one_of};
 
 use attempts::NoMemory;
-use competition_file::{CompetitionFile, Duty, RoundGroup, has_duty, round_groups};
+use competition_file::{CompetitionFile, Duty, GroupDuty, RoundGroup, duties_of, round_groups};
 use formats::Advance;
-use markup::Piece::{Html, Number, Text};
+use markup::Piece::{Number, Text};
 use markup::fill;
 use round_words::push_round_words;
 use serde_json::Value;
+use std::alloc::Global;
 use texts::RoundId;
 use wcif::given_name;
+
+/// The duties of each of these persons: so the assignments of each are read once, and not once for
+/// each list.
+fn duties_of_all(alloc: Global, persons: &[Value]) -> Result<Vec<Vec<GroupDuty>>, NoMemory>
+    ensures { IfOk result (λ all. map (λ one. one.items) all.items
+        ≡ map duties_of (map view persons.now)) }
+{
+    let mut all = Vec::new(alloc);
+    for person in persons {
+        all.push(duties_of(alloc, person)?)?;
+    }
+    Ok(all)
+}
 
 const LIST_START: &[u8] = b", group $</h2>\n";
 
@@ -37,24 +53,47 @@ fn duty_words(duty: Duty) -> &'static [u8]
 
 const ONE: &[u8] = b"<li>$</li>\n";
 
-/// Adds a person's name, where the person has this duty in the group of an activity.
-fn push_one(out: &mut Vec<u8>, duty: Duty, activity: u64, person: &Value) -> Result<(), NoMemory>
+/// Whether a duty in the group of an activity is among these.
+fn is_among(duties: &[GroupDuty], duty: Duty, activity: u64) -> bool
+    ensures { result ≡ list_any (is_this duty activity) duties.now }
+{
+    duties.iter().any(|one| one.is(activity, duty))
+}
+
+/// Adds the name of a person with these duties, where this one in the group of an activity is among
+/// them.
+#[tactic(auto, using(crate::proofs::Helpers::is_helper))]
+fn push_one(
+    out: &mut Vec<u8>,
+    duty: Duty,
+    activity: u64,
+    person: &Value,
+    duties: &[GroupDuty],
+) -> Result<(), NoMemory>
+    requires { duties.now ≡ duties_of (view person.now) }
     ensures { OnOk result (out.new.items
         ≡ out.old.items ++ one_of duty activity (view person.now)) }
 {
-    if has_duty(person, activity, duty) {
+    if is_among(duties, duty, activity) {
         fill(out, ONE, &[Text(given_name(person).as_bytes())])
     } else {
         Ok(())
     }
 }
 
-fn push_all(out: &mut Vec<u8>, duty: Duty, activity: u64, persons: &[Value]) -> Result<(), NoMemory>
+fn push_all(
+    out: &mut Vec<u8>,
+    duty: Duty,
+    activity: u64,
+    persons: &[Value],
+    duties: &[Vec<GroupDuty>],
+) -> Result<(), NoMemory>
+    requires { map (λ one. one.items) duties.now ≡ map duties_of (map view persons.now) }
     ensures { OnOk result (out.new.items
         ≡ out.old.items ++ flat_map (one_of duty activity) (map view persons.now)) }
 {
-    for person in persons {
-        push_one(out, duty, activity, person)?;
+    for place in 0..persons.len() {
+        push_one(out, duty, activity, &persons[place], &duties[place])?;
     }
     Ok(())
 }
@@ -65,12 +104,14 @@ fn push_duty(
     duty: Duty,
     activity: u64,
     persons: &[Value],
+    duties: &[Vec<GroupDuty>],
 ) -> Result<(), NoMemory>
+    requires { map (λ one. one.items) duties.now ≡ map duties_of (map view persons.now) }
     ensures { OnOk result (out.new.items
         ≡ out.old.items ++ duty_list (map view persons.now) activity duty) }
 {
     out.extend_from_slice(duty_words(duty))?;
-    push_all(out, duty, activity, persons)?;
+    push_all(out, duty, activity, persons, duties)?;
     out.extend_from_slice(b"</ul></div>\n")
 }
 
@@ -78,19 +119,21 @@ fn push_duty(
 fn push_group(
     out: &mut Vec<u8>,
     persons: &[Value],
+    duties: &[Vec<GroupDuty>],
     id: RoundId,
     advance: Advance,
     group: RoundGroup,
 ) -> Result<(), NoMemory>
+    requires { map (λ one. one.items) duties.now ≡ map duties_of (map view persons.now) }
     ensures { OnOk result (out.new.items
         ≡ out.old.items ++ group_list (map view persons.now) id advance group) }
 {
     out.extend_from_slice(b"<section class=\"duties\"><h2>")?;
     push_round_words(out, id, advance)?;
     push_list_start(out, group.number)?;
-    push_duty(out, Duty::Scrambler, group.activity, persons)?;
-    push_duty(out, Duty::Runner, group.activity, persons)?;
-    push_duty(out, Duty::Judge, group.activity, persons)?;
+    push_duty(out, Duty::Scrambler, group.activity, persons, duties)?;
+    push_duty(out, Duty::Runner, group.activity, persons, duties)?;
+    push_duty(out, Duty::Judge, group.activity, persons, duties)?;
     out.extend_from_slice(b"</section>\n")?;
     Ok(())
 }
@@ -98,15 +141,17 @@ fn push_group(
 fn push_all_groups(
     out: &mut Vec<u8>,
     persons: &[Value],
+    duties: &[Vec<GroupDuty>],
     id: RoundId,
     advance: Advance,
     groups: &[RoundGroup],
 ) -> Result<(), NoMemory>
+    requires { map (λ one. one.items) duties.now ≡ map duties_of (map view persons.now) }
     ensures { OnOk result (out.new.items ≡ out.old.items
         ++ flat_map (group_list (map view persons.now) id advance) groups.now) }
 {
     for group in groups {
-        push_group(out, persons, id, advance, *group)?;
+        push_group(out, persons, duties, id, advance, *group)?;
     }
     Ok(())
 }
@@ -126,5 +171,7 @@ pub(crate) fn push_lists(
         return Ok(());
     };
     let groups = round_groups(*out.allocator(), file, id)?;
-    push_all_groups(out, file.persons(), id, advance, &groups)
+    let persons = file.persons();
+    let duties = duties_of_all(*out.allocator(), persons)?;
+    push_all_groups(out, persons, &duties, id, advance, &groups)
 }

@@ -1,11 +1,12 @@
-use Rattle.std.proofs.Common.{refl, sym, subst, ◌∙◌}
-use Rattle.multiplex.specs.model.{Ticks.desks, Visiting.HearsOwn}
-use Rattle.multiplex.proofs.{Heard.heard_more, Heard.heard_none, Walking.fewer_wait}
+use Rattle.std.proofs.Common.{refl, sym, ◌∙◌}
+use Rattle.multiplex.specs.model.Ticks.{desks}
+use Rattle.multiplex.proofs.{Heard.first_none, Heard.heard_more, Heard.heard_rest}
+use Rattle.multiplex.proofs.Walking.{fewer_wait}
 use Rattle.multiplex.proofs.own_frames.hear.Goals as goal
 
 pub loop-talk-init : goal.loop-talk-init
 loop-talk-init g c = record {
-  hears = heard_none g.D.Desk g.P.Peers _ _ _;
+  hears = first_none g.D.Desk g.P.Peers _ _ _ _;
   home = refl;
   same = refl;
   wire = refl;
@@ -23,7 +24,8 @@ loop-talk-preserved g c =
     record {
       hears =
           heard_more g.D.Desk g.P.Peers c.args.talk.now.wire c.args.talk.now.home
-          (desks c.args.node.now c.args.peers.now) (desks c.loop-talk.node c.loop-talk.peers)
+          c.args.talk.now.waiting (desks c.args.node.now c.args.peers.now)
+          (desks c.loop-talk.node c.loop-talk.peers)
           (desks c.advance.new.node c.advance.new.peers) c.loop-talk.talk c.advance.new.self
           at.same at.wire (sym c.loop-talk-test.ensures) at.hears turn;
       home = c.advance.ensures.home ∙ at.home;
@@ -38,17 +40,16 @@ loop-talk-smaller g c =
 
 pub returns-then-not-advance-clause-hears : goal.returns-then-not-advance-clause-hears
 returns-then-not-advance-clause-hears g c =
-    let at = c.loop-talk.invariant in
-    let turn = c.if-not-advance.ensures.turn in
-    let d = g.D.Desk in
-    let start = desks c.args.node.now c.args.peers.now in
-    subst (λ n. HearsOwn d g.P.Peers c.args.talk.now.wire c.args.talk.now.home start
-    (desks n c.advance.new.peers)) (sym turn.0) (subst (λ p. HearsOwn d g.P.Peers
-    c.args.talk.now.wire c.args.talk.now.home start (desks c.loop-talk.node p)) (sym turn.1)
-    at.hears)
+    heard_rest g.D.Desk g.P.Peers (desks c.args.node.now c.args.peers.now)
+    (desks c.loop-talk.node c.loop-talk.peers) (desks c.advance.new.node c.advance.new.peers)
+    c.args.talk.now c.loop-talk.talk c.advance.new.self (sym c.loop-talk-test.ensures)
+    c.loop-talk.invariant.hears c.if-not-advance.ensures.turn
 
 pub returns-clause-hears : goal.returns-clause-hears
-returns-clause-hears g c = c.loop-talk.invariant.hears
+returns-clause-hears g c = record {
+  first = c.loop-talk.invariant.hears;
+  all = λ free. sym c.loop-talk-test.ensures;
+}
 
 pub returns-then-not-advance-clause-home : goal.returns-then-not-advance-clause-home
 returns-then-not-advance-clause-home g c = c.advance.ensures.home ∙ c.loop-talk.invariant.home

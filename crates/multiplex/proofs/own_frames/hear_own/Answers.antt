@@ -1,25 +1,35 @@
-use Rattle.std.proofs.Common.{refl, sym, ap, subst, ◌∙◌}
-use Rattle.serving.specs.Turns.{Talk, WantsRead}
-use Rattle.store.specs.declared.home.Home.{Home}
-use Rattle.wire.specs.declared.values.Version.{Version}
-use Rattle.multiplex.specs.model.{Ticks.desks, Visiting.HearsOwn}
-use Rattle.multiplex.proofs.Heard.{heard_after, heard_none}
+use Rattle.std.proofs.Common.{◌≡◌, refl, sym, ap, subst, inl, inr, ◌∙◌, List, ℕ, rules}
+use Rattle.serving.specs.Turns.{Receives, Talk, WantsRead}
+use Rattle.multiplex.specs.model.{Ticks.desks, Visiting.HearsBytes}
+use Rattle.multiplex.proofs.Heard.{hears_off, hears_on}
 use Rattle.multiplex.proofs.own_frames.hear_own.Goals as goal
 
 pub returns-then-not-hears-clause-hears : goal.returns-then-not-hears-clause-hears
-returns-then-not-hears-clause-hears g c = heard_none g.D.Desk g.L.Peers _ _ _
+returns-then-not-hears-clause-hears g c =
+    hears_off g.D.Desk g.L.Peers g.L.OwnLinks.waiting c.args.hears _ _
+    (desks c.args.node.now c.args.links.now) c.if-not-hears.true
 
 pub returns-then-is_empty-clause-hears : goal.returns-then-is_empty-clause-hears
 returns-then-is_empty-clause-hears g c =
-    heard_after g.D.Desk g.L.Peers c.args.wire (g.D.Desk.home_of c.args.node.now)
-    c.args.node.now c.args.links.now c.own-frames.new.self _ c.own-frames.ensures.handed
-    (heard_none g.D.Desk g.L.Peers _ _ _)
+    hears_on g.D.Desk g.L.Peers g.L.OwnLinks.waiting c.args.hears _ _
+    (desks c.args.node.now c.args.links.now) (desks c.args.node.now c.own-frames.new.self)
+    c.if-not-hears.false (record {
+      taken = c.own-frames.new.self;
+      none = c.own-frames.ensures.none;
+      handed = c.own-frames.ensures.handed;
+      heard = inl refl;
+    })
 
 pub returns-in_default-clause-hears : goal.returns-in_default-clause-hears
 returns-in_default-clause-hears g c =
-    heard_after g.D.Desk g.L.Peers c.args.wire (g.D.Desk.home_of c.args.node.now)
-    c.args.node.now c.args.links.now c.own-frames.new.self _ c.own-frames.ensures.handed
-    (heard_none g.D.Desk g.L.Peers _ _ _)
+    hears_on g.D.Desk g.L.Peers g.L.OwnLinks.waiting c.args.hears _ _
+    (desks c.args.node.now c.args.links.now) (desks c.args.node.now c.own-frames.new.self)
+    c.if-not-hears.false (record {
+      taken = c.own-frames.new.self;
+      none = c.own-frames.ensures.none;
+      handed = c.own-frames.ensures.handed;
+      heard = inl refl;
+    })
 
 pub receive-requires : goal.receive-requires
 receive-requires g c =
@@ -33,13 +43,21 @@ hear-requires g c = record {
 
 pub returns-clause-hears : goal.returns-clause-hears
 returns-clause-hears g c =
-    let d = g.D.Desk in
     let a = desks c.args.node.now c.own-frames.new.self in
     let b = desks c.hear.new.node c.hear.new.peers in
-    let home = c.receive.ensures.0.home ∙ ap (λ (t : Talk). t.home) c.in-Ok.ensures in
-    let wire = c.receive.ensures.0.wire ∙ ap (λ (t : Talk). t.wire) c.in-Ok.ensures in
-    heard_after d g.L.Peers c.args.wire (d.home_of c.args.node.now) c.args.node.now
-    c.args.links.now c.own-frames.new.self b c.own-frames.ensures.handed
-    (subst (λ (z : Home). HearsOwn d g.L.Peers c.args.wire z a b) home
-    (subst (λ (z : Version). HearsOwn d g.L.Peers z c.receive.new.self.home a b) wire
-    c.hear.ensures.hears))
+    let frames : c.deref.result.now ≡ c.own-frames.result.items = search rules in
+    hears_on g.D.Desk g.L.Peers g.L.OwnLinks.waiting c.args.hears _ _
+    (desks c.args.node.now c.args.links.now) b c.if-not-hears.false (record {
+      taken = c.own-frames.new.self;
+      none = c.own-frames.ensures.none;
+      handed = c.own-frames.ensures.handed;
+      heard =
+          inr (subst (λ (z : List ℕ). HearsBytes g.D.Desk g.L.Peers c.args.wire
+          (g.D.Desk.home_of c.args.node.now) z a b) (frames ∙ c.own-frames.ensures.frames) (
+            c.receive.new.self,
+            c.hear.new.talk,
+            subst (λ (t : Talk). Receives c.deref.result.now t c.receive.new.self) c.in-Ok.ensures
+                c.receive.ensures,
+            c.hear.ensures.hears,
+          ));
+    })

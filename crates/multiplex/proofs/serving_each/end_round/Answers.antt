@@ -1,6 +1,8 @@
 use Rattle.std.proofs.Common.{refl, subst, sym, ◌∙◌, ◌++◌, true, false, None, Some}
 use Rattle.multiplex.specs.{Musts.EndsRound, Musts.WereKeptAt, Scenes.scene, Dear.renewed}
 use Rattle.polled.specs.Requests.{Asks}
+use Rattle.multiplex.specs.model.{Ticks.desks, Visiting.HearsThenSettles}
+use Rattle.store.specs.declared.home.Home.{Home}
 use Rattle.multiplex.specs.model.Asking.{AsksSome, WakesAll}
 use Rattle.multiplex.proofs.Asked.{all_woken_more, asks_both, asks_none}
 use Rattle.multiplex.proofs.{Heard.settles_at, Looking.none_of, Looking.some_of}
@@ -175,3 +177,18 @@ returns-then-is_some-clause-settled g c none =
 
 pub returns-clause-settled : goal.returns-clause-settled
 returns-clause-settled g c none = c.if-not-settle_and_keep-2.ensures.settled refl
+
+pub returns-then-is_some-clause-heard : goal.returns-then-is_some-clause-heard
+returns-then-is_some-clause-heard g c none =
+    absurd
+    (some_of c.tick_if_due-over.result c.is_some.result c.is_some.ensures c.if-is_some.true none)
+
+pub returns-clause-heard : goal.returns-clause-heard
+returns-clause-heard g c none =
+    let a = desks c.settle_and_keep.new.node c.settle_and_keep.new.links in (
+      a,
+      subst (λ (z : Home). HearsThenSettles g.D.Desk g.L.Peers g.L.OwnLinks.waiting true
+          c.args.terms.wire z true a c.settle_and_keep-2.new.node)
+          (c.settle_and_keep.ensures.home ∙ c.tick_if_due-over.ensures.home)
+          c.if-not-settle_and_keep-2.ensures.heard,
+    )

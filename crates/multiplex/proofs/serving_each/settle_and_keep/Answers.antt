@@ -18,3 +18,9 @@ returns-clause-kept g c so =
     kept_at c.args.now (g.L.PeerLinks.kept c.settle.new.links)
     (g.L.PeerLinks.kept c.keep_links.new.links) (g.L.PeerLinks.kept c.keep_links.new.links)
     c.keep_links.ensures.kept refl
+
+pub returns-clause-heard : goal.returns-clause-heard
+returns-clause-heard g c = c.if-not-settle.ensures.heard
+
+pub returns-then-not-settle-clause-heard : goal.returns-then-not-settle-clause-heard
+returns-then-not-settle-clause-heard g c = c.if-not-settle.ensures.heard

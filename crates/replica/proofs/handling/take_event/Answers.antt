@@ -1,12 +1,12 @@
-use Rattle.std.proofs.Common.{ap}
+use Rattle.std.proofs.Common.{Ok, ap}
 use Rattle.learner.specs.declared.event.DeskEvent.TheVariants.{Submit, Start, Tick, Deliver}
 use Rattle.learner.specs.Steps.{step}
 use Rattle.replica.specs.roles.model.RunningDesks.{RunningDesk}
-use Rattle.replica.proofs.Taking.{takes_refused, takes_as, left_as}
+use Rattle.replica.proofs.Taking.{left_as, planned_ok, takes_as, takes_refused}
 use Rattle.replica.proofs.handling.take_event.Goals as goal
 
-pub returns-in-Err-clause-takes : goal.returns-in-Err-clause-takes
-returns-in-Err-clause-takes g c =
+pub returns-in-Submit-clause-takes : goal.returns-in-Submit-clause-takes
+returns-in-Submit-clause-takes g c =
     let x = c.args.desk.now in
     rw c.in-Submit.is
     (takes_refused (Unit {0}) (step x.desks x.number x.desk (Submit c.in-Submit.entry)) x.desks
@@ -47,19 +47,11 @@ returns-in-Tick-clause-left g c down honest =
     s.same (record { plan = s.plan; refused = s.refused })
     (λ t p. c.carry_out-in-Tick.ensures.left down t p honest))
 
-pub returns-in-Deliver-clause-takes : goal.returns-in-Deliver-clause-takes
-returns-in-Deliver-clause-takes g c =
+pub returns-in-Ok-deliver-clause-takes : goal.returns-in-Ok-deliver-clause-takes
+returns-in-Ok-deliver-clause-takes g c =
     let x = c.args.desk.now in
-    let s = c.plan_message-planned.ensures in
-    rw c.in-Deliver.is (takes_as x c.plan_message-planned.new.desk c.plan_message-planned.result
+    let plan = c.in-Ok-deliver.plan in
+    let s = c.in-Ok-deliver.ensures in
+    rw c.in-Deliver.is (takes_as x c.deliver.new.self (Ok plan)
     (step x.desks x.number x.desk (Deliver c.in-Deliver.message)) _ _ s.same
-    (record { plan = s.plan; refused = s.refused }) c.carry_out-in-Deliver.ensures.takes)
-
-pub returns-in-Deliver-clause-left : goal.returns-in-Deliver-clause-left
-returns-in-Deliver-clause-left g c down honest =
-    let x = c.args.desk.now in
-    let s = c.plan_message-planned.ensures in
-    rw c.in-Deliver.is (left_as x c.plan_message-planned.new.desk c.plan_message-planned.result
-    (step x.desks x.number x.desk (Deliver c.in-Deliver.message)) _ _ s.same
-    (record { plan = s.plan; refused = s.refused })
-    (λ t p. c.carry_out-in-Deliver.ensures.left down t p honest))
+    (planned_ok x.desk plan _ s.plan) c.carry_out-in-Ok-deliver.ensures.takes)

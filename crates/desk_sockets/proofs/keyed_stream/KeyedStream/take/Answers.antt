@@ -1,18 +1,24 @@
-use Rattle.std.proofs.Common.{◌≡◌, rules, subst, sym}
-use Rattle.desk_sockets.proofs.Answering.{hands_none}
+use Rattle.std.proofs.Common.{rules, refl, inl, inr}
 use Rattle.desk_sockets.proofs.keyed_stream.KeyedStream.take.Goals as goal
 
-pub returns-in_default-clause-hands : goal.returns-in_default-clause-hands
-returns-in_default-clause-hands g c = hands_none
+pub returns-in_default-clause-ends : goal.returns-in_default-clause-ends
+returns-in_default-clause-ends g c so = inr (refl, refl)
 
-pub returns-then-is_err-clause-hands : goal.returns-then-is_err-clause-hands
-returns-then-is_err-clause-hands g c =
-    let same : c.extend_from_slice.new.self.items ≡ c.args.handed.now.items = search rules in
-    rw same hands_none
+pub returns-then-is_err-clause-ends : goal.returns-then-is_err-clause-ends
+returns-then-is_err-clause-ends g c so = inr (search rules, refl)
 
-pub returns-clause-hands : goal.returns-clause-hands
-returns-clause-hands g c = record {
+pub returns-clause-says : goal.returns-clause-says
+returns-clause-says g c so = record {
   said = c.in-Ok.more.items;
+  receives = c.in-Ok.ensures.receives;
   handed = search rules;
   who = search rules;
 }
+
+pub returns-clause-ends : goal.returns-clause-ends
+returns-clause-ends g c so = inl (record {
+  said = c.in-Ok.more.items;
+  receives = c.in-Ok.ensures.receives;
+  handed = search rules;
+  who = search rules;
+})

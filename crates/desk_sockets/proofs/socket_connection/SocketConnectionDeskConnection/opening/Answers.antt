@@ -16,6 +16,7 @@ returns-clause-turned g c =
 pub returns-clause-who : goal.returns-clause-who
 returns-clause-who g c = (
   c.is_open-open.ensures.who.said,
+  c.is_open-open.ensures.who.read,
   c.note_open.ensures.who
       ∙ ap (λ (a : AnsweringOf). who_at c.note_open.result a) c.is_open-open.ensures.who.who,
 )
