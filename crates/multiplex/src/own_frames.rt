@@ -2,6 +2,7 @@
 
 ghost use Rattle.std.specs.Prelude.{◌≡◌, ◌==◌, ℕ, List, [], ◌∷◌, IsTrue};
 ghost use Rattle.std.specs.Bool.{OnFalse, OnTrue};
+ghost use Rattle.polled.specs.Telling.{Tells};
 ghost use Rattle.serving.specs.Adding.{Hands};
 ghost use Rattle.multiplex.specs.model.{Ticks.desks, Visiting.HearsNext, Visiting.HearsWhere};
 ghost use Rattle.multiplex.specs.model.Visiting.{HearsThenSettles, SettlesDesks};
@@ -92,12 +93,14 @@ impl<L: PeerLinks> PeerLinks for OwnFrames<L> {
 
     fn keep(&mut self, now: u64)
         ensures waiting { self.new.waiting ≡ self.old.waiting }
+        ensures kept { Tells (L.kept self.old.links) (L.kept self.new.links) (now ∷ []) }
     {
         self.links.keep(now);
     }
 
     fn differs(&mut self, difference: Difference)
         ensures waiting { self.new.waiting ≡ self.old.waiting }
+        ensures kept { L.kept self.new.links ≡ L.kept self.old.links }
     {
         self.links.differs(difference);
     }
@@ -116,6 +119,8 @@ impl<L: PeerLinks> OwnLinks for OwnFrames<L> {
 
     fn own(&mut self) -> Vec<u8>
         ensures links { self.new.links ≡ self.old.links }
+        ensures frames { result.items ≡ self.old.waiting.items }
+        ensures none { self.new.waiting.items ≡ [] }
     {
         mem::replace(&mut self.waiting, Vec::new(self.alloc))
     }
