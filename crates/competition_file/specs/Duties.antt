@@ -6,7 +6,7 @@ use Rattle.std.specs.List.{list_any}
 use Rattle.std.specs.Option.{option_and_then, option_map, option_to_list}
 use denote.Enum.Bare.{sameb}
 use Rattle.serde_json.specs.Data.{Data}
-use Rattle.wcif.specs.{Members.number_at, Persons.text_under, Persons.is_number}
+use Rattle.wcif.specs.{Members.number_at, Persons.text_under}
 use Rattle.competition_file.specs.contracts.duties.Duty.{the_type as duty_type}
 use Rattle.competition_file.specs.declared.duties.Duty.{Duty}
 use Rattle.competition_file.specs.declared.duties.GroupDuty.{GroupDuty}
@@ -17,16 +17,6 @@ abbrev pub code_of : Duty → List ℕ
 code_of Scrambler = codes "staff-scrambler"
 code_of Runner = codes "staff-runner"
 code_of Judge = codes "staff-judge"
-
--- an assignment is to do this in the group whose activity has this id
-abbrev pub is_duty : Duty → ℕ → Data → Bool
-is_duty duty id d =
-    bytes_eq (text_under (codes "assignmentCode") d) (code_of duty)
-    && is_number id (number_at (codes "activityId") d)
-
--- a person has such an assignment
-unfoldable pub has_duty : Duty → ℕ → Data → Bool
-has_duty duty id p = list_any (is_duty duty id) (items_under (codes "assignments") p)
 
 abbrev pub group_duty : ℕ → Duty → GroupDuty
 group_duty id duty = record { activity = id; duty = duty }
@@ -55,3 +45,7 @@ duties_in d = option_to_list (duty_in d)
 -- all duties of a person, in the order of the assignments
 unfoldable pub duties_of : Data → List GroupDuty
 duties_of p = flat_map duties_in (items_under (codes "assignments") p)
+
+-- a person has a duty in the group whose activity has this id
+abbrev pub has_duty : Duty → ℕ → Data → Bool
+has_duty duty id p = list_any (is_this duty id) (duties_of p)

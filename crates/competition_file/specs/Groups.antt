@@ -11,7 +11,7 @@ use Rattle.wcif.specs.Members.{number_at}
 use Rattle.wcif.specs.Persons.{text_under}
 use Rattle.wcif.specs.Rounds.{number_within, round_id}
 use Rattle.competition_file.specs.declared.groups.RoundGroup.{RoundGroup}
-use Rattle.competition_file.specs.declared.groups.Seat.{Seat}
+use Rattle.competition_file.specs.declared.groups.{ActivitySeat.ActivitySeat, Seat.Seat}
 use Rattle.competition_file.specs.{Files.venues, Items.items_under}
 
 -- the lists on the levels below a venue, counted from the groups
@@ -65,18 +65,31 @@ is_competitor d = bytes_eq (text_under (codes "assignmentCode") d) (codes "compe
 abbrev pub station_of : Data → Option ℕ
 station_of d = number_within 1 9999 (codes "stationNumber") d
 
-abbrev pub seat : Data → RoundGroup → Seat
-seat d one = record { group = one.number; station = station_of d }
+abbrev pub in_activity : Data → ℕ → ActivitySeat
+in_activity d id = record { activity = id; station = station_of d }
 
--- where an assignment lets somebody compete, in one of these groups
-abbrev pub seat_in : List RoundGroup → Data → Option Seat
-seat_in groups d =
-    if is_competitor d
-    then option_map (seat d)
-    (option_and_then (λ id. with_activity id groups) (number_at (codes "activityId") d))
-    else None
+-- the activity in which an assignment lets somebody compete, and the station
+abbrev pub activity_seat : Data → Option ActivitySeat
+activity_seat d =
+    if is_competitor d then option_map (in_activity d) (number_at (codes "activityId") d) else None
 
--- where a person competes: by the first assignment that says it
-unfoldable pub seat_of : List RoundGroup → Data → Option Seat
-seat_of groups p =
-    slice_get (filter_map (seat_in groups) (items_under (codes "assignments") p)) 0
+abbrev pub seats_in : Data → List ActivitySeat
+seats_in d = option_to_list (activity_seat d)
+
+-- all activities in which a person competes, in the order of the assignments
+unfoldable pub seats_of : Data → List ActivitySeat
+seats_of p = flat_map seats_in (items_under (codes "assignments") p)
+
+abbrev pub seat : ActivitySeat → RoundGroup → Seat
+seat s one = record { group = one.number; station = s.station }
+
+-- the seat in an activity that is one of these groups
+abbrev pub seat_with : List RoundGroup → ActivitySeat → Option Seat
+seat_with groups s = option_map (seat s) (with_activity s.activity groups)
+
+abbrev pub seat_among : List RoundGroup → List ActivitySeat → Option Seat
+seat_among groups seats = slice_get (filter_map (seat_with groups) seats) 0
+
+-- where a person competes, in one of these groups: by the first assignment that says it
+abbrev pub seat_of : List RoundGroup → Data → Option Seat
+seat_of groups p = seat_among groups (seats_of p)

@@ -1,4 +1,5 @@
 pub mod Items
+pub mod Kept
 pub mod Files
 pub mod Numbers
 pub mod Bests

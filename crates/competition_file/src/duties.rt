@@ -80,10 +80,22 @@ fn push_duties(duties: &mut Vec<GroupDuty>, assignments: &[Value]) -> Result<(),
 
 /// All duties of a person, in the order of the assignments.
 #[tactic(auto, unfolding(crate::specs::Duties::duties_of))]
-pub fn duties_of(alloc: Global, person: &Value) -> Result<Vec<GroupDuty>, NoMemory>
+fn duties_of(alloc: Global, person: &Value) -> Result<Vec<GroupDuty>, NoMemory>
     ensures { IfOk result (λ duties. duties.items ≡ duties_of (view person.now)) }
 {
     let mut duties = Vec::new(alloc);
     push_duties(&mut duties, items_under(person, "assignments"))?;
     Ok(duties)
+}
+
+/// The same for each of these persons.
+pub(crate) fn all_duties(alloc: Global, persons: &[Value]) -> Result<Vec<Vec<GroupDuty>>, NoMemory>
+    ensures { IfOk result (λ all. map (λ one. one.items) all.items
+        ≡ map duties_of (map view persons.now)) }
+{
+    let mut all = Vec::new(alloc);
+    for person in persons {
+        all.push(duties_of(alloc, person)?)?;
+    }
+    Ok(all)
 }

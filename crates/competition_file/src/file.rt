@@ -1,15 +1,20 @@
 //! A competition's file.
 
 ghost use Rattle.std.specs.Prelude.{◌≡◌, codes, find, map, option_map, true};
+ghost use Rattle.std.specs.Option.{option_and_then};
 ghost use Rattle.std.specs.Prelude.{IfErr, IfOk, OnErr, OnOk};
 ghost use Rattle.serde_json.specs.View.{view};
 ghost use Rattle.wcif.specs.Files.{Holds, ReadFails};
 ghost use Rattle.wcif.specs.Persons.{has_number, text_under as text_in};
+ghost use Rattle.competition_file.specs.{Duties.duties_of, Groups.seat_of};
 ghost use Rattle.competition_file.specs.Files.{RenewFails, data_of, is_same, persons, proposals};
 ghost use Rattle.competition_file.specs.Files.{venues};
 
+use crate::duties::GroupDuty;
+use crate::groups::{RoundGroup, Seat, seat_among, seats_at};
 use crate::items::{items_of, items_under};
-use crate::numbers::{own_numbers, person_numbered};
+use crate::kept::KeptPersons;
+use crate::numbers::{person_at, place_noted};
 use attempts::NoMemory;
 use serde_json::Value;
 use std::alloc::Global;
@@ -23,21 +28,21 @@ use wcif::{
 pub struct CompetitionFile {
     bytes: Vec<u8>,
     value: Value,
-    numbers: Vec<Option<u64>>,
+    kept: KeptPersons,
 }
 
 impl Model for CompetitionFile {
-    ghost use Rattle.std.specs.Prelude.{◌≡◌, List, ℕ, map};
+    ghost use Rattle.std.specs.Prelude.{◌≡◌, List, ℕ};
     ghost use Rattle.serde_json.specs.View.{view as seen};
     ghost use Rattle.competition_file.specs.Files.{data_of as held, persons as people};
-    ghost use Rattle.competition_file.specs.Numbers.{own_number};
+    ghost use Rattle.competition_file.specs.Kept.{IsKept};
 
     ghost Value = { List ℕ };
 
     ghost view = { λ file. file.bytes.items };
 
     ghost invariant = { λ file. (held file.bytes.items ≡ seen file.value)
-        × (file.numbers.items ≡ map own_number (people (seen file.value))) };
+        × IsKept (people (seen file.value)) file.kept };
 }
 
 /// Why a newer file does not take the place of one.
@@ -62,14 +67,10 @@ impl CompetitionFile {
         ensures err { IfErr result (ReadFails bytes.items) }
     {
         let value = read_file(alloc, &bytes)?;
-        let Ok(numbers) = own_numbers(alloc, items_under(&value, "persons")) else {
+        let Ok(kept) = KeptPersons::read(alloc, items_under(&value, "persons")) else {
             return Err(FileFault::NoMemory);
         };
-        Ok(CompetitionFile {
-            bytes,
-            value,
-            numbers,
-        })
+        Ok(CompetitionFile { bytes, value, kept })
     }
 
     /// The bytes of the file.
@@ -130,7 +131,27 @@ impl CompetitionFile {
         ensures { option_map (λ person. view person.now) result
             ≡ find (has_number number) (persons (data_of self.now)) }
     {
-        person_numbered(self.persons(), &self.numbers, number)
+        person_at(self.persons(), place_noted(&self.kept.places, number))
+    }
+
+    /// Where the first accepted person with a number competes, in one of these groups.
+    pub fn seat(&self, groups: &[RoundGroup], number: u16) -> Option<Seat>
+        ensures { result ≡ option_and_then (seat_of groups.now)
+            (find (has_number number) (persons (data_of self.now))) }
+    {
+        let place = place_noted(&self.kept.places, number);
+        match seats_at(&self.kept.seats, place) {
+            Some(seats) => seat_among(groups, seats),
+            None => None,
+        }
+    }
+
+    /// What each person does beside competing.
+    pub fn duties(&self) -> &[Vec<GroupDuty>]
+        ensures { map (λ one. one.items) result.now
+            ≡ map duties_of (persons (data_of self.now)) }
+    {
+        &self.kept.duties
     }
 
     /// The venues of the schedule; none where there is no list of them. The `rooms` of each have

@@ -1,12 +1,13 @@
 //! The groups of rounds, and who competes in which.
 
-ghost use Rattle.std.specs.Prelude.{◌≡◌, ◌++◌, option_map, IfOk, OnOk};
+ghost use Rattle.std.specs.Prelude.{◌≡◌, ◌++◌, flat_map, map, option_map, slice_get, IfOk, OnOk};
+ghost use Rattle.std.specs.Option.{option_and_then};
 ghost use Rattle.serde_json.specs.View.{view};
 ghost use Rattle.competition_file.specs.Files.{data_of};
-ghost use Rattle.competition_file.specs.Groups.{after, group_in, group_prefix, is_competitor};
-ghost use Rattle.competition_file.specs.Groups.{groups_down, level_name, number_after};
-ghost use Rattle.competition_file.specs.Groups.{round_groups, seat_in, seat_of, station_of};
-ghost use Rattle.competition_file.specs.Groups.{with_activity};
+ghost use Rattle.competition_file.specs.Groups.{activity_seat, after, group_in, group_prefix};
+ghost use Rattle.competition_file.specs.Groups.{groups_down, is_competitor, level_name};
+ghost use Rattle.competition_file.specs.Groups.{number_after, round_groups, seat_among, seat_with};
+ghost use Rattle.competition_file.specs.Groups.{seats_in, seats_of, station_of, with_activity};
 
 use crate::file::CompetitionFile;
 use crate::items::items_under;
@@ -35,6 +36,14 @@ pub struct RoundGroup {
 pub struct Seat {
     pub group: u16,
     pub station: Option<u16>,
+}
+
+/// The id of the activity in which an assignment lets somebody compete, and the number of the
+/// station, where it is known.
+#[derive(Clone, Copy, Debug, PartialEq, Eq)]
+pub(crate) struct ActivitySeat {
+    pub(crate) activity: u64,
+    pub(crate) station: Option<u16>,
 }
 
 /// The name of the lists on this level below a venue, counted from the groups.
@@ -149,31 +158,94 @@ fn station_of(assignment: &Value) -> Option<u16>
     Some(number as u16)
 }
 
-/// Where an assignment lets somebody compete, in one of these groups.
-fn seat_in(groups: &[RoundGroup], assignment: &Value) -> Option<Seat>
-    ensures { result ≡ seat_in groups.now (view assignment.now) }
+/// The activity in which an assignment lets somebody compete, and the station.
+fn activity_seat(assignment: &Value) -> Option<ActivitySeat>
+    ensures { result ≡ activity_seat (view assignment.now) }
 {
     if !is_competitor(assignment) {
         return None;
     }
-    let group = with_activity(groups, number_at(assignment, "activityId")?)?;
+    let activity = number_at(assignment, "activityId")?;
+    let station = station_of(assignment);
+    Some(ActivitySeat { activity, station })
+}
+
+fn push_seat(seats: &mut Vec<ActivitySeat>, assignment: &Value) -> Result<(), NoMemory>
+    ensures { OnOk result (seats.new.items
+        ≡ seats.old.items ++ seats_in (view assignment.now)) }
+{
+    if let Some(seat) = activity_seat(assignment) {
+        seats.push(seat)?;
+    }
+    Ok(())
+}
+
+fn push_seats(seats: &mut Vec<ActivitySeat>, assignments: &[Value]) -> Result<(), NoMemory>
+    ensures { OnOk result (seats.new.items
+        ≡ seats.old.items ++ flat_map seats_in (map view assignments.now)) }
+{
+    for assignment in assignments {
+        push_seat(seats, assignment)?;
+    }
+    Ok(())
+}
+
+/// All activities in which a person competes, in the order of the assignments.
+#[tactic(auto, unfolding(crate::specs::Groups::seats_of))]
+fn seats_of(alloc: Global, person: &Value) -> Result<Vec<ActivitySeat>, NoMemory>
+    ensures { IfOk result (λ seats. seats.items ≡ seats_of (view person.now)) }
+{
+    let mut seats = Vec::new(alloc);
+    push_seats(&mut seats, items_under(person, "assignments"))?;
+    Ok(seats)
+}
+
+/// The same for each of these persons.
+pub(crate) fn all_seats(
+    alloc: Global,
+    persons: &[Value],
+) -> Result<Vec<Vec<ActivitySeat>>, NoMemory>
+    ensures { IfOk result (λ all. map (λ one. one.items) all.items
+        ≡ map seats_of (map view persons.now)) }
+{
+    let mut all = Vec::new(alloc);
+    for person in persons {
+        all.push(seats_of(alloc, person)?)?;
+    }
+    Ok(all)
+}
+
+/// The seat in an activity, where it is one of these groups.
+fn seat_in(groups: &[RoundGroup], seat: &ActivitySeat) -> Option<Seat>
+    ensures { result ≡ seat_with groups.now seat.now }
+{
+    let group = with_activity(groups, seat.activity)?;
     Some(Seat {
         group: group.number,
-        station: station_of(assignment),
+        station: seat.station,
     })
 }
 
-/// Where a person competes in a round of these groups: by the first assignment that says it.
-#[tactic(auto, unfolding(crate::specs::Groups::seat_of))]
-pub fn seat_of(groups: &[RoundGroup], person: &Value) -> Option<Seat>
-    ensures { result ≡ seat_of groups.now (view person.now) }
+/// The first seat that is in one of these groups.
+pub(crate) fn seat_among(groups: &[RoundGroup], seats: &[ActivitySeat]) -> Option<Seat>
+    ensures { result ≡ seat_among groups.now seats.now }
 {
-    let assignments = items_under(person, "assignments");
-    for assignment in assignments {
-        let found = seat_in(groups, assignment);
+    for seat in seats {
+        let found = seat_in(groups, seat);
         if found.is_some() {
             return found;
         }
     }
     None
+}
+
+/// The seats at a place.
+pub(crate) fn seats_at(
+    seats: &[Vec<ActivitySeat>],
+    place: Option<usize>,
+) -> Option<&Vec<ActivitySeat>>
+    ensures { option_map (λ one. one.now.items) result
+        ≡ option_and_then (λ i. option_map (λ one. one.items) (slice_get seats.now i)) place }
+{
+    seats.get(place?)
 }

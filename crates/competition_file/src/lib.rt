@@ -8,15 +8,16 @@ mod fields;
 mod file;
 mod groups;
 mod items;
+mod kept;
 mod limits;
 mod numbers;
 mod opening;
 
 pub use bests::{ResultKind, best_of, kind_name};
-pub use duties::{Duty, GroupDuty, duties_of};
+pub use duties::{Duty, GroupDuty};
 pub use fields::field_best;
 pub use file::{CompetitionFile, RenewFault};
-pub use groups::{RoundGroup, Seat, round_groups, seat_of};
+pub use groups::{RoundGroup, Seat, round_groups};
 pub use items::items_under;
 pub use limits::{cumulative_limit, limit_rounds, round_of};
 pub use numbers::list_number;

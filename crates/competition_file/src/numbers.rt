@@ -1,13 +1,14 @@
 //! The numbers of persons.
 
-ghost use Rattle.std.specs.Prelude.{◌≡◌, ◌<◌, find, get_or, length, map, option_map, IfOk, None};
+ghost use Rattle.std.specs.Prelude.{◌≡◌, map, nat_eq, option_map, slice_get, IfOk, OnOk};
+ghost use Rattle.std.specs.{HashMap.get, Option.option_and_then};
 ghost use Rattle.serde_json.specs.View.{view};
-ghost use Rattle.wcif.specs.Persons.{has_number, is_number};
-ghost use Rattle.competition_file.specs.Numbers.{list_number, own_number};
+ghost use Rattle.competition_file.specs.Numbers.{AreFirsts, NotesFirst, list_number, own_number};
 
 use attempts::NoMemory;
 use serde_json::Value;
 use std::alloc::Global;
+use std::collections::HashMap;
 use wcif::{is_accepted, number_of};
 
 /// The greatest number that a list can have.
@@ -38,50 +39,44 @@ pub fn list_number(person: &Value) -> Option<u16>
     }
 }
 
-/// The numbers of accepted persons, for each of these persons.
-pub(crate) fn own_numbers(alloc: Global, persons: &[Value]) -> Result<Vec<Option<u64>>, NoMemory>
-    ensures { IfOk result (λ own. own.items ≡ map own_number (map view persons.now)) }
+/// Notes a number at a place, unless it is noted already.
+fn note(places: &mut HashMap<u64, usize>, number: Option<u64>, place: usize) -> Result<(), NoMemory>
+    ensures { OnOk result (NotesFirst number place places.old places.new) }
 {
-    let mut own = Vec::new(alloc);
-    for person in persons {
-        own.push(own_number(person))?;
+    let Some(number) = number else {
+        return Ok(());
+    };
+    if !places.contains_key(&number) {
+        places.insert(number, place)?;
     }
-    Ok(own)
+    Ok(())
 }
 
-/// Whether a number is this one.
-fn is_number(number: u64, own: Option<u64>) -> bool
-    ensures { result ≡ is_number number own }
+/// Where the first accepted one of these persons with each number is.
+pub(crate) fn first_places(
+    alloc: Global,
+    persons: &[Value],
+) -> Result<HashMap<u64, usize>, NoMemory>
+    ensures { IfOk result (λ places. AreFirsts places (map view persons.now)) }
 {
-    match own {
-        Some(own) => own == number,
-        None => false,
-    }
-}
-
-/// Whether the number at a place is this one.
-fn is_number_at(own: &[Option<u64>], place: usize, number: u16) -> bool
-    requires { place < length own.now }
-    ensures { result ≡ is_number number (get_or own.now place None) }
-{
-    is_number(u64::from(number), own[place])
-}
-
-/// The first accepted one of these persons with a number, given the numbers of all.
-pub(crate) fn person_numbered<'v>(
-    persons: &'v [Value],
-    own: &[Option<u64>],
-    number: u16,
-) -> Option<&'v Value>
-    requires { own.now ≡ map own_number (map view persons.now) }
-    ensures { option_map (λ person. view person.now) result
-        ≡ find (has_number number) (map view persons.now) }
-{
+    let mut places = HashMap::new(alloc);
     for place in 0..persons.len() {
-        let person = &persons[place];
-        if is_number_at(own, place, number) {
-            return Some(person);
-        }
+        note(&mut places, own_number(&persons[place]), place)?;
     }
-    None
+    Ok(places)
+}
+
+/// The place that is noted of a number.
+pub(crate) fn place_noted(places: &HashMap<u64, usize>, number: u16) -> Option<usize>
+    ensures { result ≡ get nat_eq places.now number }
+{
+    places.get(&u64::from(number)).copied()
+}
+
+/// The person at a place.
+pub(crate) fn person_at(persons: &[Value], place: Option<usize>) -> Option<&Value>
+    ensures { option_map (λ person. view person.now) result
+        ≡ option_and_then (λ i. option_map view (slice_get persons.now i)) place }
+{
+    persons.get(place?)
 }

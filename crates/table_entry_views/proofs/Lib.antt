@@ -1,4 +1,3 @@
 mod Blanks
-pub mod Helpers
 mod Ordered
 mod Walks

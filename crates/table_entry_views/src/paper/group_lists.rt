@@ -1,6 +1,6 @@
 //! Who scrambles, runs and judges in each group of a round.
 
-ghost use Rattle.std.specs.Prelude.{◌≡◌, ◌++◌, IfOk, OnOk, flat_map, map};
+ghost use Rattle.std.specs.Prelude.{◌≡◌, ◌++◌, OnOk, flat_map, map};
 ghost use Rattle.std.specs.List.{list_any};
 ghost use Rattle.std.specs.Option.{option_copied};
 ghost use Rattle.serde_json.specs.View.{view};
@@ -9,28 +9,14 @@ ghost use Rattle.table_entry_views.specs.paper.Lists.{duty_list, duty_words, gro
 ghost use Rattle.table_entry_views.specs.paper.Lists.{list_start, one_of};
 
 use attempts::NoMemory;
-use competition_file::{CompetitionFile, Duty, GroupDuty, RoundGroup, duties_of, round_groups};
+use competition_file::{CompetitionFile, Duty, GroupDuty, RoundGroup, round_groups};
 use formats::Advance;
 use markup::Piece::{Number, Text};
 use markup::fill;
 use round_words::push_round_words;
 use serde_json::Value;
-use std::alloc::Global;
 use texts::RoundId;
 use wcif::given_name;
-
-/// The duties of each of these persons: so the assignments of each are read once, and not once for
-/// each list.
-fn duties_of_all(alloc: Global, persons: &[Value]) -> Result<Vec<Vec<GroupDuty>>, NoMemory>
-    ensures { IfOk result (λ all. map (λ one. one.items) all.items
-        ≡ map duties_of (map view persons.now)) }
-{
-    let mut all = Vec::new(alloc);
-    for person in persons {
-        all.push(duties_of(alloc, person)?)?;
-    }
-    Ok(all)
-}
 
 const LIST_START: &[u8] = b", group $</h2>\n";
 
@@ -62,7 +48,6 @@ fn is_among(duties: &[GroupDuty], duty: Duty, activity: u64) -> bool
 
 /// Adds the name of a person with these duties, where this one in the group of an activity is among
 /// them.
-#[tactic(auto, using(crate::proofs::Helpers::is_helper))]
 fn push_one(
     out: &mut Vec<u8>,
     duty: Duty,
@@ -171,7 +156,5 @@ pub(crate) fn push_lists(
         return Ok(());
     };
     let groups = round_groups(*out.allocator(), file, id)?;
-    let persons = file.persons();
-    let duties = duties_of_all(*out.allocator(), persons)?;
-    push_all_groups(out, persons, &duties, id, advance, &groups)
+    push_all_groups(out, file.persons(), file.duties(), id, advance, &groups)
 }

@@ -1,7 +1,7 @@
 use Rattle.std.proofs.Common.{◌≡◌, map, take}
 use Rattle.serde_json.specs.View.{view}
 use Rattle.competition_file.specs.Duties.{duties_of}
-use Rattle.table_entry_views.proofs.paper.group_lists.duties_of_all.Given as goal
+use Rattle.competition_file.proofs.duties.all_duties.Given as goal
 
 abbrev pub invariant-loop-person : goal.invariant-loop-person
 invariant-loop-person l =
