@@ -143,7 +143,7 @@ def duties(value, event, number):
 
 
 def limit_words(value, event, number):
-    """What a card says of a limit for several attempts together; nothing where there is none."""
+    """The words for a limit for several attempts together; nothing where there is none."""
     def first(items, name):
         return next((it for it in items or [] if (text(it, "id") or "") == name), None)
     of_event = first(listed(value, "events"), event)

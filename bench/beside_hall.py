@@ -65,15 +65,15 @@ class Program:
 
 def lines_for(program, path, most):
     """Commands for rounds of the competition, of people with numbers up to this one: one of 333
-    with results, closed, and the final after it; one of 444 that is closed; and one of 222 in which
-    nobody has an attempt."""
+    with results, closed, and the final after it; one of 444 that is closed; and one of 222 and one
+    of 333bf, whose limit is for all attempts together, in which nobody has an attempt."""
     made = run(program, "import", "--wcif", path, "--cumulative", "as-single", "--same-names",
                "id").splitlines()
-    words = [line.split(" ") for line in made]
+    words, events = [line.split(" ") for line in made], ("333", "222", "444", "333bf")
     lines = [" ".join(line) for line in words
              if line[0] == "EDITION" or line[0] == "REG" and int(line[1]) <= most
-             or line[0] == "OPEN" and line[1] in ("333", "222", "444") and line[2] == "1"
-             or line[0] == "ENT" and line[1] in ("333", "222", "444") and int(line[2]) <= most]
+             or line[0] == "OPEN" and line[1] in events and line[2] == "1"
+             or line[0] == "ENT" and line[1] in events and int(line[2]) <= most]
     for event, least in (("333", 900), ("444", 3000)):
         entered = [line.split()[2] for line in lines if line.startswith(f"ENT {event} ")]
         for place, who in enumerate(entered):

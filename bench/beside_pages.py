@@ -122,6 +122,7 @@ def labels_of(page):
     return labels
 
 
-def texts_of(page, wanted):
-    """The texts of the elements of a tag."""
-    return [text for tag, _, text, _ in Text(page).found if tag == wanted]
+def texts_of(page, wanted, of_class=None):
+    """The texts of the elements of a tag, of a class alone where one is given."""
+    return [text for tag, kind, text, _ in Text(page).found
+            if tag == wanted and of_class in (None, kind)]

@@ -278,6 +278,12 @@ def psych(title, value, event):
 """)
 
 
+def together(value, what, which):
+    """The line of a limit for several attempts together by the file, where the round has one."""
+    words = beside.limit_words(value, what, which)
+    return f'<p class="together">{escaped(words)}</p>\n' if words else ""
+
+
 def records(title, value, meet, what, which):
     """The page of which results of a round are personal records by a competition's file."""
     if (what, which) in meet.rounds:
@@ -292,7 +298,7 @@ def records(title, value, meet, what, which):
                 lines += f'<td class="pr">{text}</td>' if is_record else f"<td>{text}</td>"
             lines += "</tr>\n"
         section = f"""<section class="records"><h2>{words}</h2>
-<table><caption>by the competition's file</caption>
+{together(value, what, which)}<table><caption>by the competition's file</caption>
 <thead><tr>{head}</tr></thead><tbody>
 {lines}</tbody></table></section>
 """

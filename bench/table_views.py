@@ -20,7 +20,7 @@ sys.path.append(str(Path(__file__).resolve().parent.parent / "scripts"))
 import beside
 import rules
 import wcif_results
-from board_views import WORDS, section
+from board_views import WORDS, section, together
 
 TOKEN = "0123456789abcdef"
 IDS = [1000 + 37 * place for place in range(32)]
@@ -869,8 +869,7 @@ class Pages:
         whose = [f'<p class="group">{seat}</p>\n<p class="who"><b>{who}</b> <bdi>{escaped(name)}'
                  f"</bdi> <span>{escaped(wca_id)}</span></p>\n"
                  for who, name, wca_id, seat in beside.cards(self.file, what, which, names)]
-        below = beside.limit_words(self.file, what, which)
-        below = f'<p class="together">{escaped(below)}</p>\n' if below else ""
+        below = together(self.file, what, which)
         if table.advance != ("final",):
             below += NEXT
         for person in whose + [NOBODY] * beside.blanks(len(whose)):

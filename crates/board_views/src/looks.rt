@@ -24,6 +24,7 @@ h2 { margin: .1em 0; font-size: 1.4em; overflow-wrap: anywhere; }
 p { margin: .2em 0; }
 .at { font-size: .7em; }
 .none { font-size: 2.5em; text-align: center; margin: 25vh 0; }
+.absent { font-style: italic; }
 .lost { border: .2em solid currentColor; margin: 0; padding: .3em .5em; font-weight: bold;
   background: var(--paper); position: sticky; top: 0; }
 [role=\"status\"]:empty { display: none; }
@@ -51,8 +52,8 @@ tr.changed > th::after { content: \" \\2731\"; }
 th[data-country]::after { content: \" \" attr(data-country); font-size: .7em; font-weight: normal; }
 tr.changed > th[data-country]::after { content: \" \" attr(data-country) \" \\2731\"; }
 td.pr::before { content: \"PR \"; font-size: .6em; font-weight: normal; vertical-align: .4em; }
-.now { margin: 0; padding: .2em .8em; border-top: 1px solid var(--line); font-size: 2.4vmin; }
-.now:empty { display: none; }
+p.now { margin: 0; padding: .2em .8em; border-top: 1px solid var(--line); font-size: 3.2vmin; }
+p.now:empty { display: none; }
 @media screen and (max-width: 600px) {
   main { padding: .3em; }
   body.all section { display: none; }
@@ -105,7 +106,7 @@ td.pr::before { content: \"PR \"; font-size: .6em; font-weight: normal; vertical
   th, td { padding: .15em .3em; }
   td:last-child { font-size: .85em; }
   main { padding: 0; }
-  nav, .lost, .find, .now { display: none; }
+  nav, .lost, .find, p.now, caption .together { display: none; }
   section[id] tr th[data-country]::after, section[id] td.pr::before { content: none; }
   a { text-decoration: none; }
   section { break-after: page; }
@@ -131,9 +132,10 @@ td.pr::before { content: \"PR \"; font-size: .6em; font-weight: normal; vertical
 /// accents and case.
 ///
 /// Where the board has a competition's file, which `/schedule` shows, the script adds what the file
-/// says: links to its pages; in a round, the countries after the names, and `PR` at results that
-/// are personal records by the file, which it asks for once for each change of a round in sight;
-/// and, below the rounds on a projector, what runs now in each room and what comes next there.
+/// says: links to its pages; in a round, the countries after the names, `PR` at results that are
+/// personal records by the file, and, below the settings, a limit that the file has for several
+/// attempts together, which it asks for once for each change of a round in sight; and, below the
+/// rounds on a projector, what runs now in each room and what comes next there.
 /// Where the board has none, it asks once, and adds nothing.
 const SCRIPT: &str = "\
 \"use strict\";
@@ -247,7 +249,7 @@ if (document.querySelector(\".people\")) {
   find.querySelector(\"input\").focus();
 }
 let file = null;
-const records = new Map(), asked = new Map();
+const records = new Map(), limits = new Map(), asked = new Map();
 async function pageAt(path) {
   const answer = await fetch(path, { cache: \"no-cache\", signal: within(20000) });
   if (answer.status === 404) return null;
@@ -285,6 +287,15 @@ function markRecords() {
       cell.title = is ? \"personal record by the competition's file\" : \"\";
     }
   }
+  for (const section of document.querySelectorAll(\"section[id]\")) showLimit(section);
+}
+function showLimit(section) {
+  const old = section.querySelector(\".together\"), it = document.createElement(\"p\");
+  if (old) old.remove();
+  if (!limits.get(section.id)) return;
+  it.className = \"together\";
+  it.textContent = limits.get(section.id);
+  section.querySelector(\".told\").after(it);
 }
 const inSight = (section) => {
   const { top, bottom } = section.getBoundingClientRect();
@@ -297,7 +308,9 @@ async function askRecords(section) {
   const page = await pageAt(\"/records/\" + id).catch(() => null);
   if (!page) return;
   const found = [...page.querySelectorAll(\"tr[data-number]\")];
+  const limit = page.querySelector(\".records .together\");
   records.set(id, new Map(found.map((row) => [row.dataset.number, row])));
+  limits.set(id, limit && limit.textContent);
   markRecords();
   if (isHall) fit();
 }

@@ -9,6 +9,7 @@ use Rattle.commands.specs.Accepted.{round_by}
 use Rattle.competition_file.specs.{Bests.best_of, Files.persons}
 use Rattle.competition_file.specs.declared.bests.ResultKind.{ResultKind}
 use Rattle.competition_file.specs.declared.bests.ResultKind.TheVariants.{Single, Average}
+use Rattle.formats.specs.declared.advance.Advance.{Advance}
 use Rattle.formats.specs.{declared.events.Event.Event, declared.results.Averaged.Averaged}
 use Rattle.formats.specs.{Events.unit_of, Results.average_of, Results.average_text}
 use Rattle.formats.specs.Results.{averaged_number, best_of as least_of, number_of}
@@ -18,6 +19,7 @@ use Rattle.rounds.specs.Tables.{Entrant, Table, entrant, standings}
 use Rattle.sheets.specs.Sheet.{best_text, name_text}
 use Rattle.texts.specs.declared.command.{Command.Command, RoundId.RoundId, Settings.Settings}
 use Rattle.wcif.specs.Persons.{has_number, text_under}
+use Rattle.record_views.specs.Together.{together}
 use Rattle.record_views.specs.declared.lines.TheConstants.{LINE}
 use Rattle.record_views.specs.declared.records.TheConstants.{START, HEAD, END, NOT_OPENED}
 
@@ -69,10 +71,14 @@ abbrev pub line_of : Data → List Command → RoundId → Table → ℕ → Lis
 line_of file cs id t n =
     unwrap_or (option_map (entrant_line file cs id t n) (entrant t n)) []
 
--- the words of a round, and its entrants in the order of the sheet
+-- the words of a round, and below them the file's limit for several attempts together, if it is one
+unfoldable pub title : Data → RoundId → Advance → List ℕ
+title file id advance = round_words id advance ++ codes "</h2>\n" ++ together file id
+
+-- a round, and its entrants in the order of the sheet
 unfoldable pub records_of : Data → List Command → RoundId → Settings × Table → List ℕ
 records_of file cs id r =
-    START.now ++ round_words id r.0.advance ++ HEAD.now
+    START.now ++ title file id r.0.advance ++ HEAD.now
     ++ flat_map (line_of file cs id r.1) (standings r.1) ++ END.now
 
 -- a round, or that it was not opened

@@ -2,13 +2,15 @@
 
 ghost use Rattle.std.specs.Prelude.{◌≡◌, ◌++◌, OnOk, flat_map};
 ghost use Rattle.competition_file.specs.Files.{data_of};
-ghost use Rattle.record_views.specs.Records.{line_of, records, records_of};
+ghost use Rattle.record_views.specs.Records.{line_of, records, records_of, title};
 
 use crate::lines::push_line;
+use crate::together::push_together;
 use attempts::NoMemory;
 use board_rounds::name_text;
 use commands::Meet;
 use competition_file::CompetitionFile;
+use formats::Advance;
 use round_counts::{OpenedRound, round_opened};
 use round_words::push_round_words;
 use rounds::RoundTable;
@@ -17,9 +19,8 @@ use texts::RoundId;
 /// Before the words of the round.
 const START: &[u8] = b"<section class=\"records\"><h2>";
 
-/// Between the words of the round and the lines.
+/// Before the lines.
 const HEAD: &[u8] = b"\
-</h2>
 <table><caption>by the competition's file</caption>
 <thead><tr><th scope=\"col\">number</th><th scope=\"col\">country</th><th scope=\"col\">name</th>\
 <th scope=\"col\">single</th><th scope=\"col\">average</th></tr></thead><tbody>
@@ -70,6 +71,21 @@ fn push_entrants(
     Ok(())
 }
 
+/// Adds the words of a round, and below them the file's limit for several attempts together.
+#[tactic(auto, unfolding(crate::specs::Records::title))]
+fn push_title(
+    out: &mut Vec<u8>,
+    file: &CompetitionFile,
+    id: RoundId,
+    advance: Advance,
+) -> Result<(), NoMemory>
+    ensures { OnOk result (out.new.items ≡ out.old.items ++ title (data_of file.now) id advance) }
+{
+    push_round_words(out, id, advance)?;
+    out.extend_from_slice(b"</h2>\n")?;
+    push_together(out, file, id)
+}
+
 /// Adds a round that was opened.
 fn push_round(
     out: &mut Vec<u8>,
@@ -84,19 +100,19 @@ fn push_round(
 {
     let numbers = round.table.standings()?;
     out.extend_from_slice(START)?;
-    push_round_words(out, id, round.settings.advance)?;
+    push_title(out, file, id, round.settings.advance)?;
     out.extend_from_slice(HEAD)?;
     push_entrants(out, file, meet, id, round.table, &numbers)?;
     out.extend_from_slice(END)?;
     Ok(())
 }
 
-/// Adds a section of a page with a line for each entrant of a round, in the order of the sheet: the
-/// number, the country of the accepted person of this number in the file, the name in the list, and
-/// the best single and the average so far, as a sheet has them. A result is marked, by the class
-/// `pr` of its cell, where it is a number, the file has such a person, and the person's best single
-/// or average in the event, before the competition, is not better or is not there. Where the round
-/// was not opened, the section says so.
+/// Adds a section of a page: the words of a round, below them the line of [`push_together`], and a
+/// line for each entrant, in the order of the sheet: the number, the country of the accepted person
+/// of this number in the file, the name in the list, and the best single and the average so far, as
+/// a sheet has them. A result is marked, by the class `pr` of its cell, where it is a number, the
+/// file has such a person, and the person's best single or average in the event, before the
+/// competition, is not better or is not there. Where the round was not opened, the section says so.
 ///
 /// # Errors
 ///

@@ -74,6 +74,7 @@ kbd { padding: 0 .25rem; border: 1px solid var(--line); border-radius: .2rem; }
 .waits em { color: var(--wait); }
 .changed em, .refused em, #back em { color: var(--bad); font-weight: bold; }
 caption { text-align: left; font-size: .85rem; padding: .15rem 0; }
+caption p { margin: 0; }
 table { border-collapse: collapse; width: 100%; font-variant-numeric: tabular-nums; }
 th, td { padding: .15rem .4rem; border-bottom: 1px solid var(--line); text-align: right; }
 #round thead { position: sticky; top: 0; background: var(--paper); }
@@ -163,6 +164,15 @@ body.scorecards main { display: grid; grid-template-columns: 1fr 1fr; grid-auto-
 .duties h3 { margin: 0 0 1mm; font-size: .9rem; }
 .duties ul { margin: 0; padding: 0; list-style: none; font-size: .75rem; }
 .duties div:last-child ul { columns: 2; }
+body.labels { page: labels; color: #000; background: #fff; }
+body.labels main { display: grid; grid-template-columns: repeat(3, 70mm); grid-auto-rows: 37mm;
+  padding: 0; }
+.label { display: grid; grid-template-columns: auto 1fr; column-gap: 3mm; align-content: center;
+  margin: 0; padding: 4mm; line-height: 1.2; break-inside: avoid; overflow: hidden; }
+.label b { grid-row: 1 / 3; align-self: center; min-width: 14mm; font-size: 2.2rem; line-height: 1; }
+.label bdi { max-height: 4.8em; overflow: hidden; overflow-wrap: anywhere; }
+.label span { font-size: .85rem; }
+@page labels { size: A4; margin: 0; }
 @page { size: A4; margin: 10mm; }
 ";
 
@@ -694,7 +704,8 @@ function point() {
   if (now) now.classList.add('current');
 }
 // Marks which results of the round are personal records by the competition's file, and adds the
-// countries. Where the table has no file, it is asked once.
+// countries, and a limit that it has for several attempts together. Where the table has no file, it
+// is asked once.
 let isMarked = false, hasFile = true;
 async function markRecords() {
   if (isMarked || !hasFile) return;
@@ -713,6 +724,13 @@ async function markRecords() {
       row.cells[at].title = is ? \"personal record by the competition's file\" : '';
     }
   }
+  if (answer.ok) showLimit(page.querySelector('.records .together'));
+}
+// Shows such a limit over the lines of the round.
+function showLimit(limit) {
+  for (const old of all('#round .together')) old.remove();
+  const it = Object.assign(make('p', limit && limit.textContent), { className: 'together' });
+  if (limit) document.querySelector('#round caption').append(it);
 }
 // Puts what was entered of late in the place of what is shown.
 function replaceRecent(page) {
