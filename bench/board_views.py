@@ -126,6 +126,16 @@ def section(meet, what, which, position, podium=False):
     return out + below(position)
 
 
+def absent(meet, table):
+    """Who has entered attempts, and none but DNS."""
+    out = ""
+    for _, who, _, _ in rules.rows(table):
+        if set(table.entrants[who]) == {"DNS"}:
+            name = escaped(meet.names[who].decode())
+            out += f'<p class="absent"><bdi>{name}</bdi> is absent</p>\n'
+    return out
+
+
 def below(position):
     return f'</tbody></table>\n<p class="at">as of result {position}</p></section>\n'
 
@@ -164,6 +174,7 @@ def podiums(meet, position):
     for what, which in opened(meet):
         if meet.rounds[what, which].advance == ("final",):
             out += section(meet, what, which, position, podium=True)
+            out += absent(meet, meet.rounds[what, which])
     return out
 
 

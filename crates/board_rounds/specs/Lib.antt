@@ -1,5 +1,6 @@
 pub mod Counting
 pub mod Rows
+pub mod Absent
 pub mod Rounds
 pub mod Persons
 pub mod model

@@ -8,7 +8,7 @@ use Rattle.rounds.specs.Tables.{Table, standings}
 use Rattle.sheets.specs.Sheet.{goes_through}
 use Rattle.texts.specs.declared.command.{Command.Command, RoundId.RoundId, Settings.Settings}
 use Rattle.markup.specs.Pieces.{fill}
-use Rattle.board_rounds.specs.Rows.{listed}
+use Rattle.board_rounds.specs.{Absent.absent, Rows.listed}
 use Rattle.board_rounds.specs.declared.rounds_shown.TheConstants.{BELOW, HEADING}
 use Rattle.round_words.specs.Words.{round_name, round_words, settings_words, state_words}
 
@@ -81,9 +81,9 @@ abbrev pub section : List Command → ℕ → RoundId → List ℕ
 section cs position id =
     unwrap_or (option_map (section_of false cs id position) (round_of cs id.event id.round)) []
 
--- the podium of a round from which nobody goes on
+-- the podium of a round from which nobody goes on, and who is absent
 abbrev pub podium_by : Advance → List Command → RoundId → ℕ → Settings × Table → List ℕ
-podium_by Final cs id position r = section_of true cs id position r
+podium_by Final cs id position r = section_of true cs id position r ++ absent cs r.1
 podium_by (Top number) cs id position r = []
 podium_by (Percent percent) cs id position r = []
 

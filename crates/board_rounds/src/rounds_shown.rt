@@ -9,6 +9,7 @@ ghost use Rattle.markup.specs.Pieces.{piece_text};
 ghost use Rattle.round_words.specs.Words.{round_name, round_words, settings_words, state_words};
 ghost use Rattle.board_rounds.specs.model.Shown.{IsOpened, link_shown, section_shown};
 
+use crate::absent::push_absent;
 use crate::lines::push_entrants;
 use crate::shown::{BoardRound, shown_round};
 use attempts::NoMemory;
@@ -202,8 +203,10 @@ pub fn push_round(
 }
 
 /// Adds the podium of a final, as [`push_round`] adds a round, but with the lines of those alone
-/// who have a place of 1 to 3 and a result: more than three where they tie. It adds nothing where
-/// the round was not opened, or is no final.
+/// who have a place of 1 to 3 and a result: more than three where they tie. After it there is a
+/// paragraph for each entrant who is absent, in the order of the sheet: for whom attempts are
+/// entered, and each of them is DNS. It adds nothing where the round was not opened, or is no
+/// final.
 ///
 /// # Errors
 ///
@@ -221,7 +224,10 @@ pub fn push_podium(
         return Ok(());
     };
     match shown.settings.advance {
-        Advance::Final => push_shown(out, shown, true, position),
+        Advance::Final => {
+            push_shown(out, shown, true, position)?;
+            push_absent(out, meet, shown.table)
+        }
         Advance::Top(_) | Advance::Percent(_) => Ok(()),
     }
 }
