@@ -146,7 +146,7 @@ impl CompetitionFile {
         }
     }
 
-    /// What each person does beside competing.
+    /// What each of the persons does beside competing, in the order of the file.
     pub fn duties(&self) -> &[Vec<GroupDuty>]
         ensures { map (λ one. one.items) result.now
             ≡ map duties_of (persons (data_of self.now)) }

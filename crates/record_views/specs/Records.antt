@@ -1,5 +1,6 @@
 -- Which results of a round are personal records by a competition's file in the WCA Competition
--- Interchange Format (its PersonalBest), and the section of a page that says it (the project's own).
+-- Interchange Format (its PersonalBest), and the section of a page that says it (the project's
+-- own).
 use Rattle.std.specs.Prelude.{ℕ, Bool, true, false, nat_le, List, [], ◌∷◌, ◌++◌, codes, decimal}
 use Rattle.std.specs.Prelude.{find, flat_map, unwrap_or, Option, Some, None}
 use Rattle.std.specs.Option.{option_map}

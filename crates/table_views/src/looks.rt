@@ -138,10 +138,12 @@ body.scorecards main { display: grid; grid-template-columns: 1fr 1fr; grid-auto-
 .scorecard .hall { font-size: .75rem; max-width: 48mm; }
 .scorecard .round { font-weight: bold; }
 .scorecard .group { position: absolute; top: 5mm; right: 5mm; }
-.scorecard .who { display: grid; grid-template-columns: auto 1fr; column-gap: 3mm; line-height: 1.2; }
+.scorecard .who { display: grid; grid-template-columns: auto 1fr; column-gap: 3mm;
+  line-height: 1.2; }
 .scorecard .who b { grid-row: 1 / 3; align-self: center; min-width: 16mm; font-size: 2.2rem;
   line-height: 1; }
-.scorecard .who bdi { min-height: 1.2em; max-height: 3.6em; overflow: hidden; overflow-wrap: anywhere; }
+.scorecard .who bdi { min-height: 1.2em; max-height: 3.6em; overflow: hidden;
+  overflow-wrap: anywhere; }
 .scorecard .who > span { min-height: 1.2em; font-size: .85rem; }
 .scorecard :is(.group, .next) span { display: inline-block; min-width: 18mm; }
 .scorecard :is(b, bdi, .who > span):empty, .scorecard :is(.group, .next) span {
@@ -159,7 +161,8 @@ body.scorecards main { display: grid; grid-template-columns: 1fr 1fr; grid-auto-
 .scorecard tr.extra th { font-size: .75rem; font-weight: normal; }
 .scorecard .rules { font-size: .75rem; margin-top: 2mm; }
 .duties { grid-column: 1 / 3; display: grid; grid-template-columns: 1fr 1fr 2fr; gap: 0 5mm;
-  align-content: start; padding: 5mm; border: 1px dashed #888; break-inside: avoid; overflow: hidden; }
+  align-content: start; padding: 5mm; border: 1px dashed #888; break-inside: avoid;
+  overflow: hidden; }
 .duties h2 { grid-column: 1 / 4; margin: 0 0 2mm; font-size: 1rem; }
 .duties h3 { margin: 0 0 1mm; font-size: .9rem; }
 .duties ul { margin: 0; padding: 0; list-style: none; font-size: .75rem; }
@@ -169,7 +172,8 @@ body.labels main { display: grid; grid-template-columns: repeat(3, 70mm); grid-a
   padding: 0; }
 .label { display: grid; grid-template-columns: auto 1fr; column-gap: 3mm; align-content: center;
   margin: 0; padding: 4mm; line-height: 1.2; break-inside: avoid; overflow: hidden; }
-.label b { grid-row: 1 / 3; align-self: center; min-width: 14mm; font-size: 2.2rem; line-height: 1; }
+.label b { grid-row: 1 / 3; align-self: center; min-width: 14mm; font-size: 2.2rem;
+  line-height: 1; }
 .label bdi { max-height: 4.8em; overflow: hidden; overflow-wrap: anywhere; }
 .label span { font-size: .85rem; }
 @page labels { size: A4; margin: 0; }
