@@ -1,9 +1,9 @@
 -- What was found in the arguments.
-use Rattle.std.proofs.Common.{◌≡◌, ◌∙◌, ap, sym, subst, ℕ, List, Bor, IfSome, Option, None, Some}
-use Rattle.std.proofs.Common.{option_map}
+use Rattle.std.proofs.Common.{◌≡◌, ◌∙◌, ap, sym, ℕ, List, Bor, IfSome, Option, None, Some}
+use Rattle.std.proofs.Common.{is_some, option_map}
 use Rattle.clap.specs.Words.{Row, Text, first_of, first_value, rows_of}
 use Rattle.clap.{specs.declared.parser.matches.Found.Found, proofs.WalkLemmas.first_value-rows}
-use Rattle.arguments.specs.Asking.{Finds, HasId, HasIds, IsEntered, IsRequest, IsTask}
+use Rattle.arguments.specs.Asking.{Finds, HasId, HasIds, IsEntered, IsRequest}
 use Rattle.wire.specs.Ranges.{IsId}
 use Rattle.arguments.specs.declared.task.{ClientRequest.ClientRequest, Task.Task}
 use Rattle.arguments.specs.declared.task.ClientRequest.TheVariants as request
@@ -14,11 +14,11 @@ pub none_found : (f : Found) (id : Text) (r : Option (Bor Text))
 none_found f id None h is = sym (first_value-rows f id) ∙ sym h
 none_found f id (Some t) h is = cc
 
--- what was given was not left out
-pub is_given : (f : Found) (id : Text) (r : Option (Bor Text)) (t : Bor Text)
-    → option_map (λ s. s.now) r ≡ first_value f id → r ≡ Some t → first_of id (rows_of f) ≡ None → ⊥
-is_given f id None t h is none = cc
-is_given f id (Some u) t h is none = let there = h ∙ first_value-rows f id ∙ none in cc
+-- whether one is given
+pub given_as : (f : Found) (id : Text) (r : Option (Bor Text))
+    → option_map (λ s. s.now) r ≡ first_value f id → is_some (first_of id (rows_of f)) ≡ is_some r
+given_as f id None h = ap is_some (sym (first_value-rows f id) ∙ sym h)
+given_as f id (Some t) h = ap is_some (sym (first_value-rows f id) ∙ sym h)
 
 -- what was given is what is found
 pub some_found : (f : Found) (id : Text) (r : Option (Bor Text)) (t : Bor Text)
@@ -27,12 +27,6 @@ pub some_found : (f : Found) (id : Text) (r : Option (Bor Text)) (t : Bor Text)
 some_found f id None t h is = cc
 some_found f id (Some u) t h is =
     sym (first_value-rows f id) ∙ sym h ∙ ap (option_map (λ (s : Bor Text). s.now)) is
-
--- the subcommand has another spelling of its name
-pub task_renamed : (name other : Text) (rows : List Row) (t : Option Task) → name ≡ other
-    → IfSome t (λ t. IsTask t other rows) → IfSome t (λ t. IsTask t name rows)
-task_renamed name other rows t is h =
-    let P : Text → Type 0 = λ n. IfSome t (λ t. IsTask t n rows) in subst P (sym is) h
 
 request_ids : (r : ClientRequest) (name : Text) (rows : List Row) → IsRequest r name rows → HasId r
 request_ids (request.Ask id) name rows h = h.1

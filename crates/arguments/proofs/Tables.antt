@@ -1,16 +1,15 @@
 -- Arguments and subcommands that tables describe.
 use Rattle.std.proofs.Common.{◌≡◌, ◌∙◌, ◌+◌, ◌<◌, ◌≤◌, ◌==◌, ◌++◌, ◌&&◌, [], ◌∷◌, ap, arith, refl}
 use Rattle.std.proofs.Common.{sym, false, true, not, Bool, Bor, IfOk, List, ℕ, Result, Ok, Err, map}
-use Rattle.std.{proofs.Common.drop, proofs.Common.get_or, proofs.Common.length, specs.List.fold}
-use Rattle.std.proofs.lemmas.{Bool.ne_eqb, List.at_drop_all, List.at_drop_more, List.length-map}
+use Rattle.std.proofs.Common.{drop, get_or, length}
+use Rattle.std.{specs.List.fold, proofs.Math.Bool.and_comm, proofs.lemmas.Bool.ne_eqb}
+use Rattle.std.proofs.lemmas.List.{length-map, at_drop_all, at_drop_more}
 use Rattle.clap.specs.{Adds.AddsConflicts, Adds.AddsRequirements, Walk.is_empty, Walk.is_free_arg}
 use Rattle.clap.specs.Words.{App, Rule, app_of, rule_of, with_subcommand}
 use Rattle.clap.specs.declared.builder.arg.{Arg.Arg, ArgPredicate.ArgPredicate}
 use Rattle.clap.specs.declared.builder.command.Command.{Command, TheViews.out-Command as fields_of}
-use Rattle.arguments.specs.Arguments.{IsCommand, several}
-use Rattle.arguments.specs.{Tables.bound_rule, declared.described.Argument.Argument}
-
--- ---- an argument with several values
+use Rattle.arguments.specs.{Arguments.IsCommand, Tables.bound_rule}
+use Rattle.arguments.specs.declared.described.Argument.{Argument}
 
 -- ---- one after the other
 
@@ -36,28 +35,19 @@ on sub app = with_subcommand app sub.top
 
 -- ---- arguments that bind others
 
-swap_and : (a b : Bool) → (a && b) ≡ (b && a)
-swap_and true true = refl
-swap_and true false = refl
-swap_and false true = refl
-swap_and false false = refl
-
 one_out : (a b x r : Bool) → (a && ((b && x) && r)) ≡ ((a && (b && r)) && x)
 one_out false b x r = refl
 one_out true false x r = refl
-one_out true true x r = swap_and x r
+one_out true true x r = and_comm x r
 
 two_out : (a b c x r : Bool) → (a && (b && ((c && x) && r))) ≡ ((a && (b && (c && r))) && x)
 two_out false b c x r = refl
 two_out true b c x r = one_out b c x r
 
-not_zero : (n : ℕ) → 1 ≤ n → n ≡ 0 → ⊥
-not_zero n some none = omega (arith, some, none)
-
 some_there : {X : Type 0} (x : X) (xs : List X) → is_empty (x ∷ xs) ≡ false
 some_there x xs =
     let some : 1 ≤ length (x ∷ xs) = omega arith in
-    ne_eqb (length (x ∷ xs)) 0 (not_zero (length (x ∷ xs)) some)
+    ne_eqb (length (x ∷ xs)) 0 (λ none. omega (arith, some, none))
 
 empty_append : {X : Type 0} (xs ys : List X) → is_empty (xs ++ ys) ≡ (is_empty xs && is_empty ys)
 empty_append [] ys = refl

@@ -1,24 +1,25 @@
 -- What the arguments of the program ask for, as its parser reads them: `clap` says which argument
 -- is the value of which name.
 use Rattle.std.specs.Prelude.{◌≡◌, ◌≤◌, ◌&&◌, ◌||◌, true, false, Bool, ℕ, List, [], ◌∷◌, codes}
-use Rattle.std.specs.Prelude.{decimal, length, map, nat_le, Option, None, Some, IfSome}
+use Rattle.std.specs.Prelude.{decimal, length, map, nat_le, Option, None, Some, IfSome, is_some}
+use Rattle.std.specs.Prelude.{if◌then◌else◌}
 use Rattle.clap.specs.Words.{App, Row, Text, all_of, first_of, new_app, subcommand_of, with_rule}
 use Rattle.clap.specs.{Words.with_subcommand, declared.builder.value_parser.ValueParser.ValueParser}
-use Rattle.formats.specs.{declared.styles.SheetStyle.SheetStyle, Events.event_of_name}
+use Rattle.formats.specs.Events.{event_of_name}
 use Rattle.wire.specs.{declared.values.Version.Version, Ranges.IsId}
-use Rattle.wcif.specs.declared.options.{CumulativeLimits.CumulativeLimits, Edition.Edition}
-use Rattle.wcif.specs.declared.options.{SameNames.SameNames, Options.Options}
+use Rattle.wcif.specs.declared.options.Options.{Options}
 use Rattle.arguments.specs.Arguments.{IsFlag, IsGiven, IsNumberAt, IsNumberOr, IsOneOf, IsText}
 use Rattle.arguments.specs.Arguments.{IsTextOr, any_text, bound, values_rule, wait_seconds_rule}
 use Rattle.arguments.specs.{Arguments.csv_rule, Arguments.errand_arguments, declared.task.Task.Task}
 use Rattle.arguments.specs.Arguments.{explain_rule, flag_rule, last_value_rule, located_arguments}
 use Rattle.arguments.specs.Arguments.{numbers, option_rule, optional_rule, optional_value_rule}
 use Rattle.arguments.specs.Arguments.{optional_values_rule, required_flag_rule, several, value_rule}
-use Rattle.hall_file.specs.declared.service.{StoreOrigin.TheVariants.AsNeeded, Service.Service}
+use Rattle.hall_file.specs.declared.service.{ServeOptions.ServeOptions, Service.Service}
+use Rattle.hall_file.specs.declared.service.StoreOrigin.{StoreOrigin}
 use Rattle.arguments.specs.declared.places.{DeskPlaces.DeskPlaces, Place.Place}
 use Rattle.arguments.specs.declared.task.{HallService.HallService, EnterOptions.EnterOptions}
 use Rattle.arguments.specs.declared.task.{LogFormOption.LogFormOption, ClientRequest.ClientRequest}
-use Rattle.formats.specs.declared.styles.SheetStyle.TheVariants as asked
+use Rattle.hall_file.specs.declared.service.StoreOrigin.TheVariants as origin
 use Rattle.wire.specs.declared.values.Version.TheVariants as version
 use Rattle.wcif.specs.declared.options.CumulativeLimits.TheVariants as limits
 use Rattle.wcif.specs.declared.options.Edition.TheVariants as edition
@@ -29,7 +30,7 @@ use Rattle.arguments.specs.declared.task.LogFormOption.TheVariants as log_form
 use Rattle.arguments.specs.declared.task.ClientRequest.TheVariants as request
 use Rattle.arguments.specs.declared.task.Task.TheVariants as task
 pub use Rattle.replay_arguments.specs.Asking.{RoundParsers, replay_arguments, named_app}
-pub use Rattle.replay_arguments.specs.Asking.{IsRound, IsReplay}
+pub use Rattle.replay_arguments.specs.Asking.{IsRound, IsReplay, IsPrinted}
 
 -- ---- the arguments of each subcommand
 
@@ -148,22 +149,13 @@ desk_arguments p =
 
 -- ---- what their values say
 
--- whether a sheet is asked for as a table
-abbrev pub is_table : SheetStyle → Bool
-is_table asked.Table = true
-is_table asked.Text = false
-
--- whether `--csv` is there
-abbrev pub IsAsked : List Row → SheetStyle → Type 0
-IsAsked rows style = IsFlag (codes "csv") rows (is_table style)
-
 -- the subcommand of this name with these values makes the request
 abbrev pub IsRequest : ClientRequest → Text → List Row → Type 0
 IsRequest (request.Ask id) name rows =
     (name ≡ codes "ask") × IsId id × IsNumberAt (codes "id") rows id
 IsRequest (request.Sheet event round position style) name rows =
     (name ≡ codes "sheet") × IsRound rows event round
-    × IsNumberAt (codes "position") rows position × IsAsked rows style
+    × IsNumberAt (codes "position") rows position × IsPrinted rows style
 IsRequest request.Tick name rows = name ≡ codes "tick"
 IsRequest request.Stop name rows = name ≡ codes "stop"
 
@@ -248,45 +240,43 @@ wire_number version.Three = 3
 wire_number version.Four = 4
 wire_number version.Five = 5
 
--- a desk of this hall, its file, for how many seconds a client may be silent, how many connections
--- it serves, the version in which it pushes, whether it says nothing of other desks, the files of
--- its keys, whether sheets need none, and where the desks listen
+-- which desk it is, its file, for how many seconds a client may be silent, how many connections it
+-- serves, the version in which it pushes, whether it says nothing of other desks, the files of its
+-- keys, and whether sheets need none
+pub record AreOptions (o : ServeOptions) (rows : List Row) : Type 0 where
+  pub desk : IsNumberAt (codes "desk") rows o.desk
+  pub store : first_of (codes "store") rows ≡ Some o.store.now
+  pub patience : IsNumberOr (codes "patience") 30 rows o.patience
+  pub connections : IsGiven (codes "connections") rows o.connections
+  pub wire : IsNumberOr (codes "wire") 1 rows (wire_number o.wire)
+  pub quiet : IsFlag (codes "quiet") rows o.quiet
+  pub key : IsText (codes "key") rows o.key
+  pub entry_key : IsText (codes "entry-key") rows o.entry_key
+  pub old_key : IsText (codes "old-key") rows o.old_key
+  pub open_sheets : IsFlag (codes "open-sheets") rows o.open_sheets
+
+-- a desk of this hall, where its desks listen, and how it serves: its store is made where there is
+-- none, and it ticks itself where that is asked for
 pub record IsService (s : Service) (rows : List Row) : Type 0 where
   pub hall : IsHall s.hall rows
-  pub desk : IsNumberAt (codes "desk") rows s.desk
-  pub store : first_of (codes "store") rows ≡ Some s.store.now
-  pub making : s.making ≡ AsNeeded
-  pub patience : IsNumberOr (codes "patience") 30 rows s.patience
-  pub connections : IsGiven (codes "connections") rows s.connections
-  pub wire : IsNumberOr (codes "wire") 1 rows (wire_number s.wire)
-  pub tick : IsGiven (codes "tick") rows s.tick
-  pub quiet : IsFlag (codes "quiet") rows s.quiet
-  pub key : IsText (codes "key") rows s.key
-  pub entry_key : IsText (codes "entry-key") rows s.entry_key
-  pub old_key : IsText (codes "old-key") rows s.old_key
-  pub open_sheets : IsFlag (codes "open-sheets") rows s.open_sheets
   pub addresses : all_of (codes "addr") rows ≡ Some (map (λ a. a.now) s.addresses.now)
+  pub options : AreOptions s.options rows
+  pub making : s.options.making ≡ origin.AsNeeded
+  pub tick : IsGiven (codes "tick") rows s.options.tick
 
--- a store is made with `--new`, and in a hall that is new as a whole
-abbrev pub Makes : List Row → (makes new_hall : Bool) → Type 0
-Makes rows makes new_hall = (new : Bool) × IsFlag (codes "new") rows new × (makes ≡ new || new_hall)
+-- where the store of a desk of a file's hall comes from: `--new` makes it, and so does `--new-hall`
+abbrev pub origin_of : (new new_hall : Bool) → StoreOrigin
+origin_of new new_hall = if new || new_hall then origin.New else origin.Open
 
--- of a desk of a file's hall the same, whether its store is made, whether all its desks are new,
--- and after how many milliseconds it ticks itself, 1,000 where none are given
+-- how a desk of a file's hall serves: whether its store is made, whether all desks of the hall are
+-- new, and after how many milliseconds it ticks itself, 1,000 where none are given
 pub record IsHallService (s : HallService) (rows : List Row) : Type 0 where
-  pub desk : IsNumberAt (codes "desk") rows s.desk
-  pub store : first_of (codes "store") rows ≡ Some s.store.now
-  pub makes : Makes rows s.makes s.new_hall
+  pub options : AreOptions s.options rows
+  pub new : Bool
+  pub is_new : IsFlag (codes "new") rows new
   pub new_hall : IsFlag (codes "new-hall") rows s.new_hall
-  pub patience : IsNumberOr (codes "patience") 30 rows s.patience
-  pub connections : IsGiven (codes "connections") rows s.connections
-  pub wire : IsNumberOr (codes "wire") 1 rows (wire_number s.wire)
-  pub tick : (n : ℕ) × (s.tick ≡ Some n) × IsNumberOr (codes "tick") 1000 rows n
-  pub quiet : IsFlag (codes "quiet") rows s.quiet
-  pub key : IsText (codes "key") rows s.key
-  pub entry_key : IsText (codes "entry-key") rows s.entry_key
-  pub old_key : IsText (codes "old-key") rows s.old_key
-  pub open_sheets : IsFlag (codes "open-sheets") rows s.open_sheets
+  pub making : s.options.making ≡ origin_of new s.new_hall
+  pub tick : (n : ℕ) × (s.options.tick ≡ Some n) × IsNumberOr (codes "tick") 1000 rows n
 
 -- the file of a stopped desk; no desk that runs is named beside it
 pub record IsStored (store : Text) (rows : List Row) : Type 0 where
@@ -317,27 +307,18 @@ pub record IsCopied (p : Place) (patience start : ℕ) (rows : List Row) : Type 
   pub within : start ≤ 65536
   pub no_store : first_of (codes "store") rows ≡ None
 
--- the edition with which the list begins: 3 with `--edition 3`, else 4
-pub record IsEdition (rows : List Row) (begun : Edition) : Type 0 where
-  pub given : (text : Text) → first_of (codes "edition") rows ≡ Some text → begun ≡ edition.Three
-  pub none : first_of (codes "edition") rows ≡ None → begun ≡ edition.Four
+-- one of two, by whether the option is given
+abbrev pub by_option : {A : Type 0} → Text → List Row → (given none : A) → A
+by_option id rows given none = if is_some (first_of id rows) then given else none
 
--- what becomes of time limits for several attempts together: `--cumulative as-single`, or nothing
-pub record IsLimits (rows : List Row) (way : CumulativeLimits) : Type 0 where
-  pub given : (text : Text) → first_of (codes "cumulative") rows ≡ Some text → way ≡ limits.AsSingle
-  pub none : first_of (codes "cumulative") rows ≡ None → way ≡ limits.Refuse
-
--- what becomes of a name that several persons have: `--same-names id`, or nothing
-pub record IsNames (rows : List Row) (way : SameNames) : Type 0 where
-  pub given : (text : Text) → first_of (codes "same-names") rows ≡ Some text → way ≡ names.WithId
-  pub none : first_of (codes "same-names") rows ≡ None → way ≡ names.Refuse
-
--- a competition's file, and how it is imported
+-- a competition's file, and how it is imported: the list begins with edition 3 with `--edition 3`,
+-- else with 4; what becomes of time limits for several attempts together, `--cumulative as-single`
+-- or nothing; and of a name that several persons have, `--same-names id` or nothing
 pub record IsImport (path : Text) (options : Options) (rows : List Row) : Type 0 where
   pub file : first_of (codes "wcif") rows ≡ Some path
-  pub edition : IsEdition rows options.edition
-  pub limits : IsLimits rows options.limits
-  pub names : IsNames rows options.names
+  pub edition : options.edition ≡ by_option (codes "edition") rows edition.Three edition.Four
+  pub limits : options.limits ≡ by_option (codes "cumulative") rows limits.AsSingle limits.Refuse
+  pub names : options.names ≡ by_option (codes "same-names") rows names.WithId names.Refuse
 
 abbrev pub IsTask : Task → Text → List Row → Type 0
 IsTask (task.Replay replay) name rows = (name ≡ codes "replay") × IsReplay replay rows
@@ -357,7 +338,7 @@ IsTask (task.Carry place patience request) name rows =
     IsRequest request name rows × IsPlaced place patience rows
 IsTask (task.Newest place patience event round style) name rows =
     (name ≡ codes "sheet") × IsPlaced place patience rows × IsRound rows event round
-    × IsAsked rows style × (first_of (codes "position") rows ≡ None)
+    × IsPrinted rows style × (first_of (codes "position") rows ≡ None)
 IsTask (task.Enter place patience id words waits) name rows =
     (name ≡ codes "enter") × IsPlaced place patience rows
     × IsEntered id (map (λ w. w.now) words.now) rows × IsFlag (codes "wait") rows waits

@@ -1,15 +1,15 @@
 -- What the tables of arguments describe: the rules of arguments, and the subcommands (the project's
 -- own).
 use Rattle.std.specs.List.{fold}
-use Rattle.std.specs.Prelude.{◌&&◌, Bool, List, Option, Some, if◌then◌else◌}
+use Rattle.std.specs.Prelude.{◌&&◌, Bool, List, Some, if◌then◌else◌}
 use Rattle.clap.specs.Walk.{is_empty}
 use Rattle.clap.specs.Words.{App, Rule, Text, new_app, with_rule, with_subcommand}
 use Rattle.arguments.specs.Arguments.{any_text, flag_rule, numbers, several, value_rule}
-use Rattle.arguments.specs.{Arguments.values_rule, declared.described.ArgumentKind.ArgumentKind}
+use Rattle.arguments.specs.{Arguments.values_rule, declared.described.Subcommand.Subcommand}
+use Rattle.arguments.specs.declared.described.{ArgumentKind.ArgumentKind, Argument.Argument}
 use Rattle.arguments.specs.Asking.{ImportParsers, RoundParsers, export_arguments, hall_arguments}
 use Rattle.arguments.specs.Asking.{hall_file_arguments, import_arguments, key_arguments, named_app}
 use Rattle.arguments.specs.Asking.{replay_arguments, results_arguments, serve_arguments}
-use Rattle.arguments.specs.declared.described.{Argument.Argument, Subcommand.Subcommand}
 use Rattle.arguments.specs.declared.described.ArgumentKind.TheVariants as takes
 
 -- an argument that takes this

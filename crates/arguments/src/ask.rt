@@ -1,13 +1,7 @@
 //! The subcommand `ask`: its arguments and its help.
 
-ghost use Rattle.std.specs.Prelude.{◌≡◌, IfOk};
-ghost use Rattle.clap.specs.Words.{app_of, with_subcommand};
-ghost use Rattle.arguments.specs.Asking.{ask_arguments};
-
-use crate::described::{Argument, ArgumentKind, Subcommand, VALUE, with_described};
+use crate::described::{Argument, ArgumentKind, Subcommand, VALUE};
 use crate::places::ERRAND;
-use clap::Command;
-use std::alloc::{AllocError, Global};
 
 const ABOUT: &str = "Asks a desk what happened to a command.";
 
@@ -24,7 +18,7 @@ Exit status: 0 answered; 2 invalid arguments, or help; 3 bad desk number, bad ha
 is refused, or refused NAME; 4 cannot connect, cannot write, or no answer; 5 no memory.";
 
 /// The subcommand `ask`.
-const ASK: Subcommand<'static> = Subcommand {
+pub const ASK: Subcommand<'static> = Subcommand {
     name: "ask",
     about: ABOUT,
     after: AFTER,
@@ -40,11 +34,3 @@ const ASK: Subcommand<'static> = Subcommand {
         ..VALUE
     }],
 };
-
-/// The command with the subcommand `ask`.
-pub fn with_ask<'a>(alloc: Global, command: Command<'a>) -> Result<Command<'a>, AllocError>
-    ensures { IfOk result
-        (λ c. app_of c ≡ with_subcommand (app_of command.entry) ask_arguments.top) }
-{
-    with_described(alloc, command, &ASK)
-}

@@ -1,16 +1,15 @@
 //! The subcommand `enter`: its arguments and its help.
 
-ghost use Rattle.std.specs.Prelude.{◌≡◌, codes, map, IfOk, IfSome};
-ghost use Rattle.clap.specs.Words.{app_of, found_of, rows_of, with_subcommand};
-ghost use Rattle.arguments.specs.Asking.{are_command, enter_arguments, is_verb, IsTask};
+ghost use Rattle.std.specs.Prelude.{◌≡◌, codes, map, IfSome};
+ghost use Rattle.clap.specs.Words.{found_of, rows_of};
+ghost use Rattle.arguments.specs.Asking.{are_command, is_verb, IsTask};
 
-use crate::described::{Argument, ArgumentKind, FLAG, Subcommand, VALUE, with_described};
+use crate::described::{Argument, ArgumentKind, FLAG, Subcommand, VALUE};
 use crate::places::{ERRAND, placed};
 use crate::task::Task;
 use crate::values::id_in;
-use clap::{ArgMatches, Command};
+use clap::ArgMatches;
 use replay_arguments::flag_at;
-use std::alloc::{AllocError, Global};
 
 const ABOUT: &str = "Enters a command at a desk, so that the desks of its hall agree on it.";
 
@@ -29,7 +28,7 @@ command, still pending, command lost, another command's id, or refused NAME; 4 c
 cannot write, or no answer; 5 no memory.";
 
 /// The subcommand `enter`.
-const ENTER: Subcommand<'static> = Subcommand {
+pub const ENTER: Subcommand<'static> = Subcommand {
     name: "enter",
     about: ABOUT,
     after: AFTER,
@@ -49,14 +48,6 @@ const ENTER: Subcommand<'static> = Subcommand {
         },
     ],
 };
-
-/// The command with the subcommand `enter`.
-pub fn with_enter<'a>(alloc: Global, command: Command<'a>) -> Result<Command<'a>, AllocError>
-    ensures { IfOk result
-        (λ c. app_of c ≡ with_subcommand (app_of command.entry) enter_arguments.top) }
-{
-    with_described(alloc, command, &ENTER)
-}
 
 /// Whether a word begins as the first one of a command does, with a capital letter.
 fn is_verb(word: &str) -> bool

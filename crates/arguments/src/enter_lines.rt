@@ -1,16 +1,15 @@
 //! The subcommand `enter-lines`: its arguments and its help.
 
-ghost use Rattle.std.specs.Prelude.{◌≡◌, codes, IfOk, IfSome};
-ghost use Rattle.clap.specs.Words.{app_of, found_of, rows_of, with_subcommand};
-ghost use Rattle.arguments.specs.Asking.{lines_arguments, IsTask};
+ghost use Rattle.std.specs.Prelude.{codes, IfSome};
+ghost use Rattle.clap.specs.Words.{found_of, rows_of};
+ghost use Rattle.arguments.specs.Asking.{IsTask};
 
-use crate::described::{Argument, ArgumentKind, FLAG, OPTION, Subcommand, with_described};
+use crate::described::{Argument, ArgumentKind, FLAG, OPTION, Subcommand};
 use crate::places::{ERRAND, placed};
 use crate::task::{EnterOptions, Task};
 use crate::values::optional_id_at;
-use clap::{ArgMatches, Command};
+use clap::ArgMatches;
 use replay_arguments::flag_at;
-use std::alloc::{AllocError, Global};
 
 const ABOUT: &str = "Enters the commands of standard input at a desk, one a line.";
 
@@ -35,7 +34,7 @@ stopped at a refusal, or refused NAME; 4 cannot read, cannot connect, cannot wri
 no memory.";
 
 /// The subcommand `enter-lines`.
-const ENTER_LINES: Subcommand<'static> = Subcommand {
+pub const ENTER_LINES: Subcommand<'static> = Subcommand {
     name: "enter-lines",
     about: ABOUT,
     after: AFTER,
@@ -73,14 +72,6 @@ const ENTER_LINES: Subcommand<'static> = Subcommand {
         },
     ],
 };
-
-/// The command with the subcommand `enter-lines`.
-pub fn with_enter_lines<'a>(alloc: Global, command: Command<'a>) -> Result<Command<'a>, AllocError>
-    ensures { IfOk result
-        (λ c. app_of c ≡ with_subcommand (app_of command.entry) lines_arguments.top) }
-{
-    with_described(alloc, command, &ENTER_LINES)
-}
 
 /// What the arguments of `enter-lines` ask for.
 pub fn lines_of<'a>(found: &ArgMatches<'a>) -> Option<Task<'a>>

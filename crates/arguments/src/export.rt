@@ -1,15 +1,14 @@
 //! The subcommand `export`: its arguments and its help.
 
-ghost use Rattle.std.specs.Prelude.{◌≡◌, codes, IfOk, IfSome};
-ghost use Rattle.clap.specs.Words.{app_of, found_of, rows_of, with_subcommand};
-ghost use Rattle.arguments.specs.Asking.{export_arguments, IsTask};
+ghost use Rattle.std.specs.Prelude.{codes, IfSome};
+ghost use Rattle.clap.specs.Words.{found_of, rows_of};
+ghost use Rattle.arguments.specs.Asking.{IsTask};
 
-use crate::described::{Argument, FLAG, Subcommand, with_described};
+use crate::described::{Argument, FLAG, Subcommand};
 use crate::import::WCIF;
 use crate::task::Task;
-use clap::{ArgMatches, Command};
+use clap::ArgMatches;
 use replay_arguments::{flag_at, text_at};
-use std::alloc::{AllocError, Global};
 
 const ABOUT: &str = "Prints a competition's WCIF file with the results of each round.";
 
@@ -31,7 +30,7 @@ invalid arguments, or help; 3 input too long, the log is cut off, the log opens 
 invalid or does not fit the log; 4 cannot read, cannot read FILE, or cannot write; 5 no memory.";
 
 /// The subcommand `export`.
-const EXPORT: Subcommand<'static> = Subcommand {
+pub const EXPORT: Subcommand<'static> = Subcommand {
     name: "export",
     about: ABOUT,
     after: AFTER,
@@ -45,14 +44,6 @@ const EXPORT: Subcommand<'static> = Subcommand {
         },
     ],
 };
-
-/// The command with the subcommand `export`.
-pub fn with_export<'a>(alloc: Global, command: Command<'a>) -> Result<Command<'a>, AllocError>
-    ensures { IfOk result
-        (λ c. app_of c ≡ with_subcommand (app_of command.entry) export_arguments.top) }
-{
-    with_described(alloc, command, &EXPORT)
-}
 
 /// What the arguments of `export` ask for.
 pub fn export_of<'a>(found: &ArgMatches<'a>) -> Option<Task<'a>>

@@ -1,14 +1,13 @@
 //! The subcommand `hall`: its arguments and its help.
 
-ghost use Rattle.std.specs.Prelude.{◌≡◌, codes, IfOk, IfSome};
-ghost use Rattle.clap.specs.Words.{app_of, found_of, rows_of, with_subcommand};
-ghost use Rattle.arguments.specs.Asking.{hall_arguments, IsTask};
+ghost use Rattle.std.specs.Prelude.{codes, IfSome};
+ghost use Rattle.clap.specs.Words.{found_of, rows_of};
+ghost use Rattle.arguments.specs.Asking.{IsTask};
 
-use crate::described::{Argument, ArgumentKind, Subcommand, VALUE, with_described};
+use crate::described::{Argument, ArgumentKind, Subcommand, VALUE};
 use crate::task::Task;
 use crate::values::byte_at;
-use clap::{ArgMatches, Command};
-use std::alloc::{AllocError, Global};
+use clap::ArgMatches;
 
 const ABOUT: &str = "Runs a hall of desks from a script and prints what they send and decide.";
 
@@ -32,7 +31,7 @@ Exit status: 0 the script was run; 2 invalid arguments, or help; 3 bad number of
 or input too long; 4 cannot read, or cannot write; 5 no memory.";
 
 /// The subcommand `hall`.
-const HALL: Subcommand<'static> = Subcommand {
+pub const HALL: Subcommand<'static> = Subcommand {
     name: "hall",
     about: ABOUT,
     after: SCRIPT,
@@ -45,14 +44,6 @@ const HALL: Subcommand<'static> = Subcommand {
         ..VALUE
     }],
 };
-
-/// The command with the subcommand `hall`.
-pub fn with_hall<'a>(alloc: Global, command: Command<'a>) -> Result<Command<'a>, AllocError>
-    ensures { IfOk result
-        (λ c. app_of c ≡ with_subcommand (app_of command.entry) hall_arguments.top) }
-{
-    with_described(alloc, command, &HALL)
-}
 
 /// What the arguments of `hall` ask for.
 pub fn hall_of<'a>(found: &ArgMatches<'a>) -> Option<Task<'a>>

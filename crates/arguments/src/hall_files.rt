@@ -1,16 +1,15 @@
 //! The subcommand `hall-file`: its arguments and its help.
 
-ghost use Rattle.std.specs.Prelude.{◌≡◌, codes, IfOk, IfSome};
-ghost use Rattle.clap.specs.Words.{app_of, found_of, rows_of, with_subcommand};
-ghost use Rattle.arguments.specs.Asking.{hall_file_arguments, IsTask};
+ghost use Rattle.std.specs.Prelude.{codes, IfSome};
+ghost use Rattle.clap.specs.Words.{found_of, rows_of};
+ghost use Rattle.arguments.specs.Asking.{IsTask};
 
-use crate::described::{Argument, ArgumentKind, FLAG, OPTION, Subcommand, with_described};
+use crate::described::{Argument, ArgumentKind, FLAG, OPTION, Subcommand};
 use crate::serve::ADDRESSES;
 use crate::task::Task;
 use crate::values::four_bytes_at;
-use clap::{ArgMatches, Command};
+use clap::ArgMatches;
 use replay_arguments::flag_at;
-use std::alloc::{AllocError, Global};
 
 const ABOUT: &str = "Prints a file that describes a hall, for --config.";
 
@@ -29,7 +28,7 @@ Exit status: 0 the file was printed, or all was made; 2 invalid arguments, or he
 4 cannot read (there are no random numbers), or cannot write; 5 no memory.";
 
 /// The subcommand `hall-file`.
-const HALL_FILE: Subcommand<'static> = Subcommand {
+pub const HALL_FILE: Subcommand<'static> = Subcommand {
     name: "hall-file",
     about: ABOUT,
     after: AFTER,
@@ -54,14 +53,6 @@ const HALL_FILE: Subcommand<'static> = Subcommand {
         ADDRESSES,
     ],
 };
-
-/// The command with the subcommand `hall-file`.
-pub fn with_hall_file<'a>(alloc: Global, command: Command<'a>) -> Result<Command<'a>, AllocError>
-    ensures { IfOk result
-        (λ c. app_of c ≡ with_subcommand (app_of command.entry) hall_file_arguments.top) }
-{
-    with_described(alloc, command, &HALL_FILE)
-}
 
 /// What the arguments of `hall-file` ask for.
 pub fn hall_file_of<'m, 'a: 'm>(found: &'m ArgMatches<'a>) -> Option<Task<'m>>

@@ -3,8 +3,7 @@
 ghost use Rattle.std.specs.Prelude.{◌≡◌, false, codes, IfOk, IfSome, Some};
 ghost use Rattle.clap.specs.Words.{found_of, rows_of, rule_of};
 ghost use Rattle.arguments.specs.Arguments.{IsCommand, optional_value_rule};
-ghost use Rattle.arguments.specs.Asking.{ImportParsers, IsEdition, IsLimits, IsNames, IsTask};
-ghost use Rattle.arguments.specs.Asking.{import_arguments};
+ghost use Rattle.arguments.specs.Asking.{ImportParsers, IsTask, by_option, import_arguments};
 
 use crate::described::{Argument, OPTION, Subcommand, made_subcommand};
 use crate::task::Task;
@@ -105,33 +104,14 @@ pub fn import_command<'a>(alloc: Global) -> Result<Command<'a>, AllocError>
     with_argument(command, names)
 }
 
-/// The edition with which the list begins.
-fn edition_at(found: &ArgMatches<'_>) -> Edition
-    ensures { IsEdition (rows_of (found_of found.now)) result }
+/// One of two, by whether an option is given.
+fn chosen<T: Copy>(found: &ArgMatches<'_>, id: &str, given: T, none: T) -> T
+    ensures { result ≡ by_option id.now (rows_of (found_of found.now)) given none }
 {
-    match found.get_str("edition") {
-        Some(_) => Edition::Three,
-        None => Edition::Four,
-    }
-}
-
-/// What becomes of time limits for several attempts together.
-fn limits_at(found: &ArgMatches<'_>) -> CumulativeLimits
-    ensures { IsLimits (rows_of (found_of found.now)) result }
-{
-    match found.get_str("cumulative") {
-        Some(_) => CumulativeLimits::AsSingle,
-        None => CumulativeLimits::Refuse,
-    }
-}
-
-/// What becomes of a name that several persons have.
-fn names_at(found: &ArgMatches<'_>) -> SameNames
-    ensures { IsNames (rows_of (found_of found.now)) result }
-{
-    match found.get_str("same-names") {
-        Some(_) => SameNames::WithId,
-        None => SameNames::Refuse,
+    if found.get_str(id).is_some() {
+        given
+    } else {
+        none
     }
 }
 
@@ -141,9 +121,14 @@ pub fn import_of<'m, 'a: 'm>(found: &'m ArgMatches<'a>) -> Option<Task<'m>>
 {
     let file = text_at(found, "wcif")?;
     let options = Options {
-        edition: edition_at(found),
-        limits: limits_at(found),
-        names: names_at(found),
+        edition: chosen(found, "edition", Edition::Three, Edition::Four),
+        limits: chosen(
+            found,
+            "cumulative",
+            CumulativeLimits::AsSingle,
+            CumulativeLimits::Refuse,
+        ),
+        names: chosen(found, "same-names", SameNames::WithId, SameNames::Refuse),
     };
     Some(Task::Import { file, options })
 }

@@ -1,14 +1,13 @@
 //! The subcommand `key`: its arguments and its help.
 
-ghost use Rattle.std.specs.Prelude.{◌≡◌, codes, IfOk, IfSome};
-ghost use Rattle.clap.specs.Words.{app_of, found_of, rows_of, with_subcommand};
-ghost use Rattle.arguments.specs.Asking.{key_arguments, IsTask};
+ghost use Rattle.std.specs.Prelude.{codes, IfSome};
+ghost use Rattle.clap.specs.Words.{found_of, rows_of};
+ghost use Rattle.arguments.specs.Asking.{IsTask};
 
-use crate::described::{Argument, OPTION, Subcommand, with_described};
+use crate::described::{Argument, OPTION, Subcommand};
 use crate::task::Task;
 use crate::values::given_text;
-use clap::{ArgMatches, Command};
-use std::alloc::{AllocError, Global};
+use clap::ArgMatches;
 
 const ABOUT: &str = "Makes a key for a hall: 64 hexadecimal digits, at random.";
 
@@ -26,7 +25,7 @@ Exit status: 0 the key was made; 2 invalid arguments, or help; 3 key file is the
 (there are no random numbers), or cannot write; 5 no memory.";
 
 /// The subcommand `key`.
-const KEY: Subcommand<'static> = Subcommand {
+pub const KEY: Subcommand<'static> = Subcommand {
     name: "key",
     about: ABOUT,
     after: AFTER,
@@ -37,14 +36,6 @@ const KEY: Subcommand<'static> = Subcommand {
         ..OPTION
     }],
 };
-
-/// The command with the subcommand `key`.
-pub fn with_key<'a>(alloc: Global, command: Command<'a>) -> Result<Command<'a>, AllocError>
-    ensures { IfOk result
-        (λ c. app_of c ≡ with_subcommand (app_of command.entry) key_arguments.top) }
-{
-    with_described(alloc, command, &KEY)
-}
 
 /// What the arguments of `key` ask for.
 pub fn key_of<'a>(found: &ArgMatches<'a>) -> Option<Task<'a>>

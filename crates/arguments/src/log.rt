@@ -1,18 +1,17 @@
 //! The subcommand `log`: its arguments and its help.
 
-ghost use Rattle.std.specs.Prelude.{◌≡◌, codes, map, IfOk, IfSome};
-ghost use Rattle.clap.specs.Words.{app_of, found_of, rows_of, with_subcommand};
-ghost use Rattle.arguments.specs.Asking.{log_arguments, AreWhose, IsForm, IsTask};
+ghost use Rattle.std.specs.Prelude.{codes, map, IfSome};
+ghost use Rattle.clap.specs.Words.{found_of, rows_of};
+ghost use Rattle.arguments.specs.Asking.{AreWhose, IsForm, IsTask};
 
-use crate::described::{Argument, ArgumentKind, FLAG, OPTION, Subcommand, with_described};
+use crate::described::{Argument, ArgumentKind, FLAG, OPTION, Subcommand};
 use crate::places::{ERRAND, placed};
 use crate::task::{LogFormOption, Task};
 use crate::values::{number_or, without};
-use clap::{ArgMatches, Command};
+use clap::ArgMatches;
 use command_line::plain_number;
 use formats::Event;
 use replay_arguments::{flag_at, text_at};
-use std::alloc::{AllocError, Global};
 
 const ABOUT: &str = "Prints the log of a desk as the lines that `desk replay` reads.";
 
@@ -32,7 +31,7 @@ device (FILE does not exist, cannot be opened, or another program has it open), 
 answer, or cannot write; 5 no memory.";
 
 /// The subcommand `log`.
-const LOG: Subcommand<'static> = Subcommand {
+pub const LOG: Subcommand<'static> = Subcommand {
     name: "log",
     about: ABOUT,
     after: AFTER,
@@ -70,14 +69,6 @@ const LOG: Subcommand<'static> = Subcommand {
         },
     ],
 };
-
-/// The command with the subcommand `log`.
-pub fn with_log<'a>(alloc: Global, command: Command<'a>) -> Result<Command<'a>, AllocError>
-    ensures { IfOk result
-        (λ c. app_of c ≡ with_subcommand (app_of command.entry) log_arguments.top) }
-{
-    with_described(alloc, command, &LOG)
-}
 
 /// The result that three words name: an event, a round and a competitor's number.
 fn changes_of(words: &[&str]) -> Option<LogFormOption>

@@ -6,21 +6,22 @@ ghost use Rattle.arguments.specs.Asking.{ImportParsers, Parsers, Parses, RoundPa
 ghost use Rattle.arguments.specs.{Asking.desk_arguments, Tables.first_half};
 ghost use Rattle.command_line.specs.Arguments.{argument_texts};
 
-use crate::ask::with_ask;
-use crate::enter::with_enter;
-use crate::enter_lines::with_enter_lines;
-use crate::export::with_export;
-use crate::hall::with_hall;
-use crate::hall_files::with_hall_file;
+use crate::ask::ASK;
+use crate::described::with_described;
+use crate::enter::ENTER;
+use crate::enter_lines::ENTER_LINES;
+use crate::export::EXPORT;
+use crate::hall::HALL;
+use crate::hall_files::HALL_FILE;
 use crate::import::import_command;
-use crate::key::with_key;
-use crate::log::with_log;
-use crate::results::with_results;
-use crate::serve::with_serve;
+use crate::key::KEY;
+use crate::log::LOG;
+use crate::results::RESULTS;
+use crate::serve::SERVE;
 use crate::sheet::sheet_command;
-use crate::status::with_status;
-use crate::stop::with_stop;
-use crate::tick::with_tick;
+use crate::status::STATUS;
+use crate::stop::STOP;
+use crate::tick::TICK;
 use clap::{ArgMatches, Command, Error};
 use replay_arguments::{desk_command, replay_command, with_subcommand};
 use std::alloc::{AllocError, Global};
@@ -34,12 +35,12 @@ fn first_half<'a>(alloc: Global) -> Result<Command<'a>, AllocError>
     let command = with_subcommand(desk_command(alloc), replay)?;
     let import = import_command(alloc)?;
     let command = with_subcommand(command, import)?;
-    let command = with_export(alloc, command)?;
-    let command = with_results(alloc, command)?;
-    let command = with_hall(alloc, command)?;
-    let command = with_hall_file(alloc, command)?;
-    let command = with_key(alloc, command)?;
-    with_serve(alloc, command)
+    let command = with_described(alloc, command, &EXPORT)?;
+    let command = with_described(alloc, command, &RESULTS)?;
+    let command = with_described(alloc, command, &HALL)?;
+    let command = with_described(alloc, command, &HALL_FILE)?;
+    let command = with_described(alloc, command, &KEY)?;
+    with_described(alloc, command, &SERVE)
 }
 
 /// The program, as the parser knows it.
@@ -47,15 +48,15 @@ fn command<'a>(alloc: Global) -> Result<Command<'a>, AllocError>
     ensures { IfOk result (λ command. (p : Parsers) × (app_of command ≡ desk_arguments p)) }
 {
     let command = first_half(alloc)?;
-    let command = with_status(alloc, command)?;
-    let command = with_log(alloc, command)?;
-    let command = with_enter(alloc, command)?;
-    let command = with_enter_lines(alloc, command)?;
-    let command = with_ask(alloc, command)?;
+    let command = with_described(alloc, command, &STATUS)?;
+    let command = with_described(alloc, command, &LOG)?;
+    let command = with_described(alloc, command, &ENTER)?;
+    let command = with_described(alloc, command, &ENTER_LINES)?;
+    let command = with_described(alloc, command, &ASK)?;
     let sheet = sheet_command(alloc)?;
     let command = with_subcommand(command, sheet)?;
-    let command = with_tick(alloc, command)?;
-    with_stop(alloc, command)
+    let command = with_described(alloc, command, &TICK)?;
+    with_described(alloc, command, &STOP)
 }
 
 /// Parses the arguments of the program, its own name first.

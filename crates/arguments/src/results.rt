@@ -1,14 +1,13 @@
 //! The subcommand `results`: its arguments and its help.
 
-ghost use Rattle.std.specs.Prelude.{◌≡◌, codes, IfOk, IfSome};
-ghost use Rattle.clap.specs.Words.{app_of, found_of, rows_of, with_subcommand};
-ghost use Rattle.arguments.specs.Asking.{results_arguments, IsTask};
+ghost use Rattle.std.specs.Prelude.{codes, IfSome};
+ghost use Rattle.clap.specs.Words.{found_of, rows_of};
+ghost use Rattle.arguments.specs.Asking.{IsTask};
 
-use crate::described::{Argument, FLAG, Subcommand, with_described};
+use crate::described::{Argument, FLAG, Subcommand};
 use crate::task::Task;
-use clap::{ArgMatches, Command};
+use clap::ArgMatches;
 use replay_arguments::flag_at;
-use std::alloc::{AllocError, Global};
 
 const ABOUT: &str = "Prints the results of all rounds as JSON.";
 
@@ -22,7 +21,7 @@ Exit status: 0 the results were printed; 2 invalid arguments, or help; 3 input t
 is cut off; 4 cannot read, or cannot write; 5 no memory.";
 
 /// The subcommand `results`.
-const RESULTS: Subcommand<'static> = Subcommand {
+pub const RESULTS: Subcommand<'static> = Subcommand {
     name: "results",
     about: ABOUT,
     after: AFTER,
@@ -34,14 +33,6 @@ const RESULTS: Subcommand<'static> = Subcommand {
         ..FLAG
     }],
 };
-
-/// The command with the subcommand `results`.
-pub fn with_results<'a>(alloc: Global, command: Command<'a>) -> Result<Command<'a>, AllocError>
-    ensures { IfOk result
-        (λ c. app_of c ≡ with_subcommand (app_of command.entry) results_arguments.top) }
-{
-    with_described(alloc, command, &RESULTS)
-}
 
 /// What the arguments of `results` ask for.
 pub fn results_of<'a>(found: &ArgMatches<'a>) -> Option<Task<'a>>

@@ -1,18 +1,17 @@
 //! The subcommand `serve`: its arguments and its help.
 
-ghost use Rattle.std.specs.Prelude.{◌≡◌, ◌||◌, codes, IfOk, IfSome};
-ghost use Rattle.clap.specs.Words.{app_of, found_of, rows_of, with_subcommand};
+ghost use Rattle.std.specs.Prelude.{◌≡◌, codes, IfSome};
+ghost use Rattle.clap.specs.Words.{found_of, rows_of};
 ghost use Rattle.arguments.specs.Arguments.{IsNumberOr};
-ghost use Rattle.arguments.specs.Asking.{serve_arguments, wire_number, IsTask, Makes};
+ghost use Rattle.arguments.specs.Asking.{AreOptions, IsTask, origin_of, wire_number};
 
-use crate::described::{Argument, ArgumentKind, FLAG, OPTION, Subcommand, VALUE, with_described};
+use crate::described::{Argument, ArgumentKind, FLAG, OPTION, Subcommand, VALUE};
 use crate::places::{CONFIG, EXPLAIN, HALL, KEY, hall_at, hall_file_at};
 use crate::task::{HallService, Task};
 use crate::values::{byte_at, given_text, number_or, optional_at};
-use clap::{ArgMatches, Command};
-use hall_file::service::{Service, StoreOrigin};
+use clap::ArgMatches;
+use hall_file::service::{ServeOptions, Service, StoreOrigin};
 use replay_arguments::{flag_at, text_at};
-use std::alloc::{AllocError, Global};
 use wire::Version;
 
 /// For how many seconds a client may be silent without the option `--patience`.
@@ -64,7 +63,7 @@ pub const ADDRESSES: Argument<'static> = Argument {
 };
 
 /// The subcommand `serve`.
-const SERVE: Subcommand<'static> = Subcommand {
+pub const SERVE: Subcommand<'static> = Subcommand {
     name: "serve",
     about: ABOUT,
     after: AFTER,
@@ -176,14 +175,6 @@ Lets clients without a key ask for sheets, answers, the log and how the desk is"
     ],
 };
 
-/// The command with the subcommand `serve`.
-pub fn with_serve<'a>(alloc: Global, command: Command<'a>) -> Result<Command<'a>, AllocError>
-    ensures { IfOk result
-        (λ c. app_of c ≡ with_subcommand (app_of command.entry) serve_arguments.top) }
-{
-    with_described(alloc, command, &SERVE)
-}
-
 /// The value of VERSION, or version 1 where it is not given.
 fn wire_at(found: &ArgMatches<'_>) -> Option<Version>
     ensures { IfSome result
@@ -196,78 +187,67 @@ fn wire_at(found: &ArgMatches<'_>) -> Option<Version>
     }
 }
 
-/// Whether one of two options is given.
-fn either(new: bool, new_hall: bool) -> bool
-    ensures { result ≡ (new || new_hall) }
+/// Where the store of a desk of a file's hall comes from.
+fn origin_of(new: bool, new_hall: bool) -> StoreOrigin
+    ensures { result ≡ origin_of new new_hall }
 {
-    new || new_hall
+    if new || new_hall {
+        StoreOrigin::New
+    } else {
+        StoreOrigin::Open
+    }
 }
 
-/// Whether the desk's file is made, in a hall that is new as a whole or is not.
-fn makes_at(found: &ArgMatches<'_>, new_hall: bool) -> bool
-    ensures { Makes (rows_of (found_of found.now)) result new_hall }
+/// What is asked of a desk whose store comes from there and whose own Ticks have this period.
+fn options_at<'m, 'a: 'm>(
+    found: &'m ArgMatches<'a>,
+    making: StoreOrigin,
+    tick: Option<u32>,
+) -> Option<ServeOptions<'m>>
+    ensures asked { IfSome result (λ o. AreOptions o (rows_of (found_of found.now))) }
+    ensures making { IfSome result (λ o. o.making ≡ making) }
+    ensures tick { IfSome result (λ o. o.tick ≡ tick) }
 {
-    let new = flag_at(found, "new");
-    either(new, new_hall)
+    Some(ServeOptions {
+        desk: byte_at(found, "desk")?,
+        store: text_at(found, "store")?,
+        making,
+        patience: number_or(found, "patience", PATIENCE)?,
+        connections: optional_at(found, "connections")?,
+        wire: wire_at(found)?,
+        tick,
+        quiet: flag_at(found, "quiet"),
+        key: given_text(found, "key"),
+        entry_key: given_text(found, "entry-key"),
+        old_key: given_text(found, "old-key"),
+        open_sheets: flag_at(found, "open-sheets"),
+    })
 }
 
 /// What the arguments of `serve` ask for: a desk of a hall at addresses, or of a file's hall.
 pub fn serve_of<'m, 'a: 'm>(found: &'m ArgMatches<'a>) -> Option<Task<'m>>
     ensures { IfSome result (λ task. IsTask task (codes "serve") (rows_of (found_of found.now))) }
 {
-    let desk = byte_at(found, "desk")?;
-    let store = text_at(found, "store")?;
+    let new = flag_at(found, "new");
     let new_hall = flag_at(found, "new-hall");
-    let makes = makes_at(found, new_hall);
-    let patience = number_or(found, "patience", PATIENCE)?;
-    let connections = optional_at(found, "connections")?;
-    let wire = wire_at(found)?;
-    let quiet = flag_at(found, "quiet");
-    let key = given_text(found, "key");
-    let entry_key = given_text(found, "entry-key");
-    let old_key = given_text(found, "old-key");
-    let open_sheets = flag_at(found, "open-sheets");
     if found.get_str("hall").is_none() {
         let file = hall_file_at(found, "addr")?;
         let tick = number_or(found, "tick", TICK)?;
-        let wanted = HallService {
-            desk,
-            store,
-            makes,
-            new_hall,
-            patience,
-            connections,
-            wire,
-            tick: Some(tick),
-            quiet,
-            key,
-            entry_key,
-            old_key,
-            open_sheets,
-        };
+        let options = options_at(found, origin_of(new, new_hall), Some(tick))?;
+        let wanted = HallService { options, new_hall };
         return Some(Task::ServeHall { file, wanted });
     }
-    if makes {
+    if new || new_hall {
         return None;
     }
     let hall = hall_at(found)?;
     let tick = optional_at(found, "tick")?;
+    let options = options_at(found, StoreOrigin::AsNeeded, tick)?;
     let addresses = found.get_strs("addr")?;
     let service = Service {
         hall,
-        desk,
-        store,
-        making: StoreOrigin::AsNeeded,
-        patience,
-        connections,
-        wire,
-        tick,
-        quiet,
-        key,
-        entry_key,
-        old_key,
-        open_sheets,
         addresses,
+        options,
     };
     Some(Task::Serve { service })
 }

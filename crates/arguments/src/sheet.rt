@@ -3,7 +3,7 @@
 ghost use Rattle.std.specs.Prelude.{codes, IfOk, IfSome};
 ghost use Rattle.clap.specs.Words.{found_of, rows_of};
 ghost use Rattle.arguments.specs.Arguments.{IsCommand};
-ghost use Rattle.arguments.specs.Asking.{sheet_arguments, IsAsked, IsTask, RoundParsers};
+ghost use Rattle.arguments.specs.Asking.{sheet_arguments, IsTask, RoundParsers};
 
 use crate::described::{
     Argument, ArgumentKind, FLAG, Subcommand, VALUE, made_subcommand, with_arguments,
@@ -12,9 +12,8 @@ use crate::places::{ERRAND, placed};
 use crate::task::{ClientRequest, Task};
 use crate::values::optional_at;
 use clap::{ArgMatches, Command};
-use replay_arguments::{event_at, event_value, flag_at, round_at, round_value, with_argument};
+use replay_arguments::{event_at, event_value, round_at, round_value, style_at, with_argument};
 use std::alloc::{AllocError, Global};
-use wire::SheetStyle;
 
 const ABOUT: &str = "Fetches the result sheet of a round from a desk and prints it.";
 
@@ -94,16 +93,5 @@ pub fn sheet_of<'a>(found: &ArgMatches<'a>) -> Option<Task<'a>>
             round,
             style,
         }),
-    }
-}
-
-/// How the sheet is asked for.
-fn style_at(found: &ArgMatches<'_>) -> SheetStyle
-    ensures { IsAsked (rows_of (found_of found.now)) result }
-{
-    if flag_at(found, "csv") {
-        SheetStyle::Table
-    } else {
-        SheetStyle::Text
     }
 }

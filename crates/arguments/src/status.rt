@@ -1,16 +1,15 @@
 //! The subcommand `status`: its arguments and its help.
 
-ghost use Rattle.std.specs.Prelude.{◌≡◌, codes, IfOk, IfSome};
-ghost use Rattle.clap.specs.Words.{app_of, found_of, rows_of, with_subcommand};
-ghost use Rattle.arguments.specs.Asking.{status_arguments, IsTask};
+ghost use Rattle.std.specs.Prelude.{codes, IfSome};
+ghost use Rattle.clap.specs.Words.{found_of, rows_of};
+ghost use Rattle.arguments.specs.Asking.{IsTask};
 
-use crate::described::{Argument, ArgumentKind, FLAG, OPTION, Subcommand, with_described};
+use crate::described::{Argument, ArgumentKind, FLAG, OPTION, Subcommand};
 use crate::places::{CONFIG, EXPLAIN, HALL, KEY, PATIENCE, PATIENCE_OPTION, desks_at};
 use crate::task::Task;
 use crate::values::number_or;
-use clap::{ArgMatches, Command};
+use clap::ArgMatches;
 use replay_arguments::flag_at;
-use std::alloc::{AllocError, Global};
 
 const ABOUT: &str = "Asks the desks of a hall how they are, and says what that means.";
 
@@ -29,7 +28,7 @@ these lacks commands; 2 invalid arguments, or help; 3 no majority answered, or F
 file; 4 cannot write; 5 no memory.";
 
 /// The subcommand `status`.
-const STATUS: Subcommand<'static> = Subcommand {
+pub const STATUS: Subcommand<'static> = Subcommand {
     name: "status",
     about: ABOUT,
     after: AFTER,
@@ -63,14 +62,6 @@ const STATUS: Subcommand<'static> = Subcommand {
         EXPLAIN,
     ],
 };
-
-/// The command with the subcommand `status`.
-pub fn with_status<'a>(alloc: Global, command: Command<'a>) -> Result<Command<'a>, AllocError>
-    ensures { IfOk result
-        (λ c. app_of c ≡ with_subcommand (app_of command.entry) status_arguments.top) }
-{
-    with_described(alloc, command, &STATUS)
-}
 
 /// What the arguments of `status` ask for.
 pub fn status_of<'m, 'a: 'm>(found: &'m ArgMatches<'a>) -> Option<Task<'m>>

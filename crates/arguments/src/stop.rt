@@ -1,13 +1,7 @@
 //! The subcommand `stop`: its arguments and its help.
 
-ghost use Rattle.std.specs.Prelude.{◌≡◌, codes, IfOk};
-ghost use Rattle.clap.specs.Words.{app_of, with_subcommand};
-ghost use Rattle.arguments.specs.Arguments.{errand_arguments};
-
-use crate::described::{Subcommand, with_described};
+use crate::described::Subcommand;
 use crate::places::ERRAND;
-use clap::Command;
-use std::alloc::{AllocError, Global};
 
 const ABOUT: &str = "Asks a desk to stop.";
 
@@ -19,18 +13,10 @@ Exit status: 0 done; 2 invalid arguments, no --desk, or help; 3 bad desk number,
 key that is refused, or refused NAME; 4 cannot connect, cannot write, or no answer; 5 no memory.";
 
 /// The subcommand `stop`.
-const STOP: Subcommand<'static> = Subcommand {
+pub const STOP: Subcommand<'static> = Subcommand {
     name: "stop",
     about: ABOUT,
     after: AFTER,
     common: &ERRAND,
     own: &[],
 };
-
-/// The command with the subcommand `stop`.
-pub fn with_stop<'a>(alloc: Global, command: Command<'a>) -> Result<Command<'a>, AllocError>
-    ensures { IfOk result (λ c. app_of c
-        ≡ with_subcommand (app_of command.entry) (errand_arguments (codes "stop")).top) }
-{
-    with_described(alloc, command, &STOP)
-}

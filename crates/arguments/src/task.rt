@@ -1,6 +1,6 @@
 //! What the arguments ask for.
 
-ghost use Rattle.std.specs.Prelude.{◌≡◌, codes, IfSome};
+ghost use Rattle.std.specs.Prelude.{codes, IfSome};
 ghost use Rattle.clap.specs.Words.{found_of, rows_of, subcommand_rows_of};
 ghost use Rattle.arguments.specs.Asking.{Finds, FindsExplain, IsRequest, IsTask};
 
@@ -20,7 +20,7 @@ use crate::status::status_of;
 use crate::values::id_at;
 use clap::ArgMatches;
 use formats::Event;
-use hall_file::service::Service;
+use hall_file::service::{ServeOptions, Service};
 use replay_arguments::{ReplayTask, flag_at, replay_of};
 use wcif::Options;
 use wire::{SheetStyle, Version};
@@ -75,35 +75,13 @@ pub enum LogFormOption {
     },
 }
 
-/// What is asked of a desk that is to serve, of the hall that a file describes.
+/// What is asked of a desk that is to serve, of the hall that a file describes. Where its options
+/// name no file of the hall's key, the hall's file names one or none.
 #[derive(Clone, Copy)]
 pub struct HallService<'a> {
-    /// The desk's number, from 1.
-    pub desk: u8,
-    /// The path of its store.
-    pub store: &'a str,
-    /// Whether the store is made.
-    pub makes: bool,
+    pub options: ServeOptions<'a>,
     /// Whether all desks of the hall are new, so that none has to answer.
     pub new_hall: bool,
-    /// How many seconds a client may be silent, and take nothing of what is sent to it.
-    pub patience: u32,
-    /// How many connections are served; without it, as many as come.
-    pub connections: Option<u32>,
-    /// The version of the wire in which frames for other desks are pushed.
-    pub wire: Version,
-    /// The period of the desk's own Ticks, 100 to 60,000 milliseconds.
-    pub tick: Option<u32>,
-    /// Whether no lines about other desks are written.
-    pub quiet: bool,
-    /// The path of the file with the hall's key; without it, the hall's file says one or none.
-    pub key: Option<&'a str>,
-    /// The path of the file with the key for entries alone.
-    pub entry_key: Option<&'a str>,
-    /// The path of the file with the key that was the hall's.
-    pub old_key: Option<&'a str>,
-    /// Whether callers without a key may ask for sheets.
-    pub open_sheets: bool,
 }
 
 /// What the arguments ask for.

@@ -22,38 +22,25 @@ pub prints_at_most : {K : Type 0} (e : StoredLogFault) (IsHonest : K → Type 0)
     → FailsLog e IsHonest files old new → PrintsLogPart old new → PrintsAtMost e old new
 prints_at_most stored.Damaged IsHonest files old new fails part = fails
 prints_at_most stored.Device IsHonest files old new fails part = fails
-prints_at_most stored.Write IsHonest files old new fails part = part
-prints_at_most stored.NoMemory IsHonest files old new fails part = part
+prints_at_most _ IsHonest files old new fails part = part
 
 -- no fault ends with status 0
 pub import_not_zero : (f : ImportsFault) (status : ℕ) → status ≡ status_of_import f → status ≡ 0 → ⊥
 import_not_zero imported.Read status is zero = omega (arith, is, zero)
-import_not_zero (imported.File file.TooLong) status is zero = omega (arith, is, zero)
-import_not_zero (imported.File (file.NotJson e)) status is zero = omega (arith, is, zero)
-import_not_zero (imported.File file.TooDeep) status is zero = omega (arith, is, zero)
-import_not_zero (imported.File (file.Refused found)) status is zero = omega (arith, is, zero)
 import_not_zero (imported.File file.NoMemory) status is zero = omega (arith, is, zero)
-import_not_zero imported.Write status is zero = omega (arith, is, zero)
-import_not_zero imported.NoMemory status is zero = omega (arith, is, zero)
+import_not_zero (imported.File _) status is zero = omega (arith, is, zero)
+import_not_zero _ status is zero = omega (arith, is, zero)
 
 log_not_zero : (f : ExportsLogFault) (status : ℕ) → status ≡ log_status f → status ≡ 0 → ⊥
 log_not_zero log.TooLong status is zero = omega (arith, is, zero)
 log_not_zero _ status is zero = omega (arith, is, zero)
 
 pub export_not_zero : (f : ExportsFault) (status : ℕ) → status ≡ export_status f → status ≡ 0 → ⊥
-export_not_zero exports.ReadFile status is zero = omega (arith, is, zero)
 export_not_zero (exports.Log f) status is zero = log_not_zero f status is zero
-export_not_zero exports.NoRound status is zero = omega (arith, is, zero)
-export_not_zero (exports.File export.TooLong) status is zero = omega (arith, is, zero)
-export_not_zero (exports.File (export.NotJson line column)) status is zero = omega (arith, is, zero)
-export_not_zero (exports.File export.TooDeep) status is zero = omega (arith, is, zero)
-export_not_zero (exports.File (export.Refused found)) status is zero = omega (arith, is, zero)
 export_not_zero (exports.File export.NoMemory) status is zero = omega (arith, is, zero)
-export_not_zero (exports.Running notes) status is zero = omega (arith, is, zero)
-export_not_zero exports.Write status is zero = omega (arith, is, zero)
-export_not_zero exports.NoMemory status is zero = omega (arith, is, zero)
+export_not_zero (exports.File _) status is zero = omega (arith, is, zero)
+export_not_zero _ status is zero = omega (arith, is, zero)
 
 pub results_not_zero : (f : ResultsFault) (status : ℕ) → status ≡ results_status f → status ≡ 0 → ⊥
 results_not_zero (results.Log f) status is zero = log_not_zero f status is zero
-results_not_zero results.Write status is zero = omega (arith, is, zero)
-results_not_zero results.NoMemory status is zero = omega (arith, is, zero)
+results_not_zero _ status is zero = omega (arith, is, zero)

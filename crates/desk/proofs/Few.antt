@@ -8,21 +8,7 @@ use Rattle.arguments.specs.declared.places.DeskPlaces.TheVariants as desks
 use Rattle.arguments.specs.declared.task.Task.TheVariants as task
 
 pub found_few : (found : Option (Text × List Row)) (t : Task) → Finds found t → HasFew t
-found_few found (task.Replay replay) h = tt
-found_few found (task.Import file options) h = tt
-found_few found (task.Export file running) h = tt
-found_few found task.Results h = tt
-found_few found (task.Hall desks) h = tt
-found_few found (task.HallFile hall addresses keys) h = tt
-found_few found (task.Key file) h = tt
-found_few found (task.Carry place patience request) h = tt
-found_few found (task.Newest place patience event round style) h = tt
-found_few found (task.Enter place patience id text waits) h = tt
-found_few found (task.EnterLines place patience lines) h = tt
-found_few found (task.Log store) h = tt
-found_few found (task.CopyLog place patience start form) h = tt
 found_few found (task.Status (desks.Addresses hall addresses key) patience json watches all) h =
     subst (λ n. n ≤ 5) (length-map addresses.now (λ a. a.now)) h.3.1.1.few
 found_few found (task.Status (desks.File file key) patience json watches all) h = tt
-found_few found (task.Serve service) h = tt
-found_few found (task.ServeHall file wanted) h = tt
+found_few found _ h = tt

@@ -142,9 +142,9 @@ EndsServeHall status file wanted c old new =
     EndsUnserved status c old new ⊎ ((hall : HallFile) × (bytes : List ℕ) × Says bytes hall
     × (((status ≡ 3) × AsksFirst file wanted hall (texts_of hall) false c.old c.new × Keeps old new)
     ⊎ ((s : Service) × (entry_key : Option (List ℕ))
-    × IsEntryKeyFile wanted.entry_key file.now entry_key
-    × IsServiceOf s hall.hall wanted (key_file_of (naming file wanted.key) hall) entry_key
-    (texts_of hall) × AsksFirst file wanted hall (texts_of hall) true c.old c.new
+    × IsEntryKeyFile wanted.options.entry_key file.now entry_key
+    × IsServiceOf s hall.hall wanted.options (key_file_of (naming file wanted.options.key) hall)
+    entry_key (texts_of hall) × AsksFirst file wanted hall (texts_of hall) true c.old c.new
     × EndsServe status s old new)))
 
 -- where all was done, nothing is written on the fault stream
@@ -163,21 +163,7 @@ form_of false = form.Text
 -- at most five desks are asked at once
 abbrev pub HasFew : Task → Type 0
 HasFew (task.Status desks patience json watches all) = AreFew desks
-HasFew (task.Replay replay) = Unit {0}
-HasFew (task.Import file options) = Unit {0}
-HasFew (task.Export file running) = Unit {0}
-HasFew task.Results = Unit {0}
-HasFew (task.Hall desks) = Unit {0}
-HasFew (task.HallFile hall addresses keys) = Unit {0}
-HasFew (task.Key file) = Unit {0}
-HasFew (task.Carry place patience request) = Unit {0}
-HasFew (task.Newest place patience event round style) = Unit {0}
-HasFew (task.Enter place patience id words waits) = Unit {0}
-HasFew (task.EnterLines place patience lines) = Unit {0}
-HasFew (task.Log store) = Unit {0}
-HasFew (task.CopyLog place patience start form) = Unit {0}
-HasFew (task.Serve service) = Unit {0}
-HasFew (task.ServeHall file wanted) = Unit {0}
+HasFew _ = Unit {0}
 
 -- how a task ended: by a status, with what was read, written and reported, and what became of
 -- connections

@@ -10,7 +10,7 @@ use batch::Dial;
 use desk_choice::{hall_key_file, hall_of_file, key_of_hall};
 use desk_requests::{DeskFault, Inquiry, tell};
 use hall_file::HallFile;
-use hall_file::service::Service;
+use hall_file::service::{Service, StoreOrigin};
 use lines::RunFault;
 use serve::{ServeFault, has_bytes, serve};
 use sqlite::Unknown;
@@ -86,10 +86,14 @@ fn may_serve<D: Dial, F: Write>(
         result (D.dialed dial.old) (D.dialed dial.new) }
     ensures quiet { IsTrue result → Keeps (F.contents faults.old) (F.contents faults.new) }
 {
-    if !wanted.makes || !matches!(has_bytes(rt, wanted.store), Ok(false)) {
+    let options = wanted.options;
+    let StoreOrigin::New = options.making else {
+        return true;
+    };
+    if !matches!(has_bytes(rt, options.store), Ok(false)) {
         return true;
     }
-    let Ok(key) = key_of_hall(rt, file, wanted.key, hall) else {
+    let Ok(key) = key_of_hall(rt, file, options.key, hall) else {
         return true;
     };
     let inquiry = Inquiry {
@@ -98,7 +102,7 @@ fn may_serve<D: Dial, F: Write>(
         patience: 2,
         key,
     };
-    may_make(dial, inquiry, wanted.desk, wanted.new_hall, faults)
+    may_make(dial, inquiry, options.desk, wanted.new_hall, faults)
 }
 
 /// Runs a desk of the hall that a file describes, and returns the exit status. Its key's file is
@@ -122,11 +126,12 @@ pub fn run_hall_service<D: Dial, W: Write, F: Write>(
         Ok(hall) => hall,
         Err(fault) => return tell_missing(rt, faults, fault, explains),
     };
-    let key = match hall_key_file(rt.alloc(), file, wanted.key, &hall) {
+    let options = wanted.options;
+    let key = match hall_key_file(rt.alloc(), file, options.key, &hall) {
         Ok(key) => key,
         Err(fault) => return tell(faults, fault),
     };
-    let entry_key = match entry_key_file(rt, file, wanted, key.is_some()) {
+    let entry_key = match entry_key_file(rt, file, options, key.is_some()) {
         Ok(entry_key) => entry_key,
         Err(fault) => return tell(faults, fault),
     };
@@ -138,7 +143,7 @@ pub fn run_hall_service<D: Dial, W: Write, F: Write>(
     }
     let service = service_of(
         hall.hall,
-        wanted,
+        options,
         path_of(&key),
         path_of(&entry_key),
         &addresses,

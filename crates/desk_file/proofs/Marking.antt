@@ -11,22 +11,41 @@ use Rattle.desk_file.specs.Marks.{IsShut, Stands, StandsBeside, number_of, uses_
 use Rattle.desk_file.specs.declared.mark.FilesState.{FilesState}
 use Rattle.desk_file.specs.declared.mark.FilesState.TheVariants as standing
 
--- ---- what was read of the front of a file
+-- ---- what was read of the front of a log, and of the number in a file
 
-pub byte_read : (file front : List ℕ) (i : ℕ) → Holds file 0 front → i < length front
-    → slice_index front i ≡ slice_index file i
-byte_read file front i holds low =
-    let at : 0 + i ≡ i = omega arith in
-    sym (holds.each i low) ∙ ap (slice_index file) at
+pub record Front (front log : List ℕ) : Type 0 where
+  pub size : be32 front 8 ≡ be32 log 8
+  pub round : be32 front 12 ≡ be32 log 12
+  pub salt : be32 front 16 ≡ be32 log 16
+  pub zero : slice_index front 0 ≡ slice_index log 0
+  pub first : slice_index front 16 ≡ slice_index log 16
+  pub gate : slice_index front 40 ≡ slice_index log 40
+  pub head : part front 0 32 ≡ header log
 
-pub number_read : (file front : List ℕ) (at : ℕ) → Holds file 0 front → at + 4 ≤ length front
-    → be32 front at ≡ be32 file at
-number_read file front at holds low =
-    same_be32 front file at at (λ i h. byte_read file front (at + i) holds (omega arith))
+pub front_read : (log front : List ℕ) → Holds log 0 front → length front ≡ 41 → Front front log
+front_read log front holds long = record {
+  size = number 8 (omega arith);
+  round = number 12 (omega arith);
+  salt = number 16 (omega arith);
+  zero = byte 0 (omega arith);
+  first = byte 16 (omega arith);
+  gate = byte 40 (omega arith);
+  head = sym (part_held log front 0 0 32 holds (omega arith));
+}
+  where
+    byte : (i : ℕ) → i < length front → slice_index front i ≡ slice_index log i
+    byte i low =
+        let at : 0 + i ≡ i = omega arith in
+        sym (holds.each i low) ∙ ap (slice_index log) at
 
-pub header_read : (log front head : List ℕ) → Holds log 0 front → 32 ≤ length front
-    → head ≡ part front 0 32 → head ≡ header log
-header_read log front head holds long is = is ∙ sym (part_held log front 0 0 32 holds long)
+    number : (at : ℕ) → at + 4 ≤ length front → be32 front at ≡ be32 log at
+    number at low = same_be32 front log at at (λ i h. byte (at + i) (omega arith))
+
+pub field_read : (db field : List ℕ) → Holds db 60 field → 4 ≤ length field
+    → be32 field 0 ≡ number_of db
+field_read db field holds four =
+    same_be32 field db 0 60 (λ i low. let at : 0 + i ≡ i = omega arith in
+    ap (slice_index field) at ∙ sym (holds.each i (omega arith)))
 
 pub told_twice : (b : Bool) (P : Type 0) → (IsTrue b → P) × (P → IsTrue b) → ¬ (¬ P) → IsTrue b
 told_twice true P is twice = refl

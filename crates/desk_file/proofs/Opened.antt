@@ -1,16 +1,16 @@
 -- The keeper that is opened on a desk's files.
-use Rattle.std.proofs.Common.{◌≡◌, ◌⊎◌, inl, inr, ◌∙◌, refl, sym, ap, subst, List, [], Result, Ok}
-use Rattle.std.proofs.Common.{Err, IfOk, IfErr, Bool, false, IsTrue}
-use Rattle.sqlite.specs.{Effect.Database, Effect.IsDatabase, Recovery.Image, Start.FindsIn}
-use Rattle.sqlite.specs.State.{HasCleanDisk, State, Opens as IsFresh, IsLive}
+use Rattle.std.proofs.Common.{◌≡◌, inl, inr, ◌∙◌, refl, sym, ap, subst, List, [], Result, Ok, Err}
+use Rattle.std.proofs.Common.{IfOk, IfErr, Bool, false, IsTrue}
+use Rattle.sqlite.specs.{Effect.Database, Effect.IsDatabase, State.Opens as IsFresh, State.IsLive}
+use Rattle.sqlite.specs.{Recovery.Image, Start.FindsIn, Tree.Trees, State.HasCleanDisk, State.State}
 use Rattle.acceptor.specs.Storing.{first_stored}
 use Rattle.acceptor.specs.declared.{entry.Entry.Entry, stored.Stored.Stored}
 use Rattle.store.specs.{Holding.HasRow, Holding.Holds, Layout.no_schema}
 use Rattle.store.specs.{Kept.HasOther, Kept.IsBare, Kept.Keeps, Opening.Opens, Opening.Refuses}
 use Rattle.store.specs.declared.fault.OpenFault.{OpenFault, TheVariants.WrongDesk}
 use Rattle.store.specs.declared.{home.Home.Home, keeper.Keeper.Ghosts}
-use Rattle.desk_file.specs.Files.{HasNoTable, HasTable, HeldAs, HeldBy, HeldOther, IsFirst}
-use Rattle.desk_file.specs.Files.{KeepsFirst, KeepsHeld, KeepsThere, TellsOther}
+use Rattle.desk_file.specs.Files.{HasNoTable, HasTable, HeldAs, HeldOther, IsStateIn, KeepsFirst}
+use Rattle.desk_file.specs.Files.{KeepsHeld, KeepsThere, StandsIn, TellsOther}
 
 -- what a connection holds that is new is the last commit
 bare_before : (c : State) → IsFresh c → IsLive c → c.now.schema ≡ no_schema
@@ -24,39 +24,25 @@ pub held_before : (c : State) (home : Home) (s : Stored) (log : List Entry) → 
 held_before c home s log k = subst (λ (d : Database). Holds home d.trees s log) k.settled k.holds
 
 -- what a keeper keeps that was opened over such a connection was held by the files
-held : (files : Image) (home : Home) (c : State) (keeps : Stored → List Entry → Type 0)
-    → (HasCleanDisk c → IsFresh c × IsLive c) → (HasCleanDisk c → FindsIn files c)
-    → Opens home c keeps → (s : Stored) × (log : List Entry) × keeps s log × HeldBy files home s log
-held files home c keeps fresh found opens = from opens.found
+held_as : (files : Image) (home : Home) (c : State) (keeps : Stored → List Entry → Type 0)
+    (Has : Stored → List Entry → Trees → Type 0) → (HasCleanDisk c → FindsIn files c)
+    → (IsBare c → Has first_stored [] c.committed.trees)
+    → ((s : Stored) (log : List Entry) → Keeps home s log c → Has s log c.committed.trees)
+    → Opens home c keeps
+    → (s : Stored) × (log : List Entry) × keeps s log × HeldAs files (Has s log)
+held_as files home c keeps Has found bare there opens =
+    elim opens.found [
+      | inl none ↦ (first_stored, [], opens.made none, by first_stored [] (bare none))
+      | inr k ↦ (k.0, k.1, opens.same k.0 k.1 k.2, by k.0 k.1 (there k.0 k.1 k.2))
+    ]
   where
-    new : IsFresh c × IsLive c
-    new = fresh opens.honest
-
-    by : (s : Stored) (log : List Entry)
-        → Holds home c.committed.trees s log ⊎ IsFirst c.committed.trees s log
-        → HeldBy files home s log
-    by s log state = record {
+    by : (s : Stored) (log : List Entry) → Has s log c.committed.trees → HeldAs files (Has s log)
+    by s log has = record {
       trees = c.committed.trees;
       found = (found opens.honest).reads;
       only = (found opens.honest).holds;
-      state = state;
+      has = has;
     }
-
-    from : (c.now.schema ≡ no_schema) ⊎ ((s : Stored) × (log : List Entry) × Keeps home s log c)
-        → (s : Stored) × (log : List Entry) × keeps s log × HeldBy files home s log
-    from (inl bare) = (
-      first_stored,
-      [],
-      opens.made bare,
-      by first_stored []
-          (inr (record { bare = bare_before c new.0 new.1 bare; state = refl; empty = refl })),
-    )
-    from (inr there) = (
-      there.0,
-      there.1,
-      opens.same there.0 there.1 there.2,
-      by there.0 there.1 (inl (held_before c home there.0 there.1 there.2)),
-    )
 
 pub opened_on : {K E : Type 0} (k : Ghosts K) (files : Image) (home : Home) (c : State)
     (r : Result K E) → (HasCleanDisk c → IsFresh c × IsLive c) → (HasCleanDisk c → FindsIn files c)
@@ -68,7 +54,13 @@ opened_on k files home c (Ok keeper) fresh found place none settled opens = reco
   place = place;
   fresh = none;
   settled = settled;
-  held = λ honest. held files home c (k.keeps keeper) fresh found (opens honest);
+  held =
+      λ honest.
+      let o = opens honest in
+      let new = fresh o.honest in
+      held_as files home c (k.keeps keeper) (IsStateIn home) found
+      (λ bare. inr (record { bare = bare_before c new.0 new.1 bare; state = refl; empty = refl }))
+      (λ s log there. inl (held_before c home s log there)) o;
 }
 opened_on k files home c (Err e) fresh found place none settled opens = tt
 
@@ -89,22 +81,8 @@ there_on k files home c (Ok keeper) fresh found there place none settled opens =
   fresh = none;
   settled = settled;
   held =
-      λ honest.
-      let o = opens honest in
-      elim o.found [
-        | inl bare ↦ absurd (there bare)
-        | inr is ↦ (
-          is.0,
-          is.1,
-          o.same is.0 is.1 is.2,
-          record {
-            trees = c.committed.trees;
-            found = (found o.honest).reads;
-            only = (found o.honest).holds;
-            has = held_before c home is.0 is.1 is.2;
-          },
-        )
-      ];
+      λ honest. held_as files home c (k.keeps keeper) (StandsIn home) found
+      (λ bare. absurd (there bare)) (held_before c home) (opens honest);
 }
 there_on k files home c (Err e) fresh found there place none settled opens = tt
 

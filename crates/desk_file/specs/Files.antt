@@ -20,24 +20,6 @@ pub record IsFirst (trees : Trees) (s : Stored) (log : List Entry) : Type 0 wher
   pub state : s ≡ first_stored
   pub empty : log ≡ []
 
--- A database file and its write-ahead log held this state of a desk: it is in the database that
--- SQLite recovers from the two, or that database has no table yet.
-pub record HeldBy (files : Image) (home : Home) (s : Stored) (log : List Entry) : Type 0 where
-  pub trees : Trees
-  pub found : AreFoundIn files trees
-  pub only : (db : Trees) → HoldsDatabase files db → trees ≡ db
-  pub state : Holds home trees s log ⊎ IsFirst trees s log
-
--- The keeper of this desk that is opened on two files: no failure is counted, and, where the files
--- have given back what was written to them, it keeps a state and a log that they held.
-pub record KeepsHeld {K : Type 0} (k : Ghosts K) (files : Image) (home : Home) (keeper : K)
-    : Type 0 where
-  pub place : k.home_of keeper ≡ home
-  pub fresh : k.failures_of keeper ≡ 0
-  pub settled : k.is_settled keeper
-  pub held : k.is_honest keeper
-      → (s : Stored) × (log : List Entry) × k.keeps keeper s log × HeldBy files home s log
-
 -- A database file and its write-ahead log held what is said of the database that SQLite recovers
 -- from the two.
 pub record HeldAs (files : Image) (Has : Trees → Type 0) : Type 0 where
@@ -74,6 +56,18 @@ StandsIn home s log trees = Holds home trees s log
 -- there is no table, and they are the first ones
 abbrev pub IsMadeIn : Stored → List Entry → Trees → Type 0
 IsMadeIn s log trees = IsFirst trees s log
+
+-- one or the other
+abbrev pub IsStateIn : Home → Stored → List Entry → Trees → Type 0
+IsStateIn home s log trees = StandsIn home s log trees ⊎ IsMadeIn s log trees
+
+-- A database file and its write-ahead log held this state of a desk.
+abbrev pub HeldBy : Image → Home → Stored → List Entry → Type 0
+HeldBy files home s log = HeldAs files (IsStateIn home s log)
+
+-- The keeper of this desk keeps a state and a log that the files held.
+abbrev pub KeepsHeld : {K : Type 0} → Ghosts K → Image → Home → K → Type 0
+KeepsHeld k files home keeper = KeepsAs k files home (IsStateIn home) keeper
 
 -- The keeper of this desk keeps what its tables had.
 abbrev pub KeepsThere : {K : Type 0} → Ghosts K → Image → Home → K → Type 0

@@ -125,10 +125,7 @@ pub fn put_in_use<S: Start>(
         Ok(state) => state.hash_one(&0u8),
         Err(_) => return Err(OpenFault::Device),
     };
-    let mut files = match close_whole(keeper.into_connection()) {
-        Ok(files) => files,
-        Err(fault) => return Err(fault),
-    };
+    let mut files = close_whole(keeper.into_connection())?;
     match begin_next(&mut files, drawn) {
         Ok(uses) => Ok(uses),
         Err(_) => Err(OpenFault::Device),
@@ -146,10 +143,7 @@ pub fn put_away<S: Start>(keeper: SqlKeeper<FileStore<FileFrom<S>>>) -> Result<(
     ensures { OnOk result (IsPutAway ⟦<FileFrom<S> as Disk>⟧
         ⟦<SqlKeeper<FileStore<FileFrom<S>>> as Keeper>⟧ keeper) }
 {
-    let mut files = match close_whole(keeper.into_connection()) {
-        Ok(files) => files,
-        Err(fault) => return Err(fault),
-    };
+    let mut files = close_whole(keeper.into_connection())?;
     match end_use(&mut files.db) {
         Ok(()) => Ok(()),
         Err(_) => Err(OpenFault::Device),

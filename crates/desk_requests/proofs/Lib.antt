@@ -1,3 +1,1 @@
-pub mod Carrying
 pub mod Polled
-pub mod Entered

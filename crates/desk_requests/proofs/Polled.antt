@@ -1,28 +1,23 @@
 -- Desks that are asked one after the other.
-use Rattle.std.proofs.Common.{◌≡◌, ◌≢◌, ◌≤◌, ◌++◌, ◌∷◌, [], ℕ, List, Option, sym, ◌∙◌, Ok, Err, inl}
-use Rattle.std.proofs.{Common.Some, Common.Result, lemmas.List.length-map, lemmas.List.take_all}
-use Rattle.std.{proofs.Common.None, specs.Borrow.Bor, specs.Io.KnownBytes.Appends}
-use Rattle.std.proofs.Common.{suc, ap, ap₂, append_assoc, arith, get_or, inr, length, refl, subst}
+use Rattle.std.proofs.Common.{◌≡◌, ◌≢◌, ◌≤◌, ◌++◌, ◌∷◌, [], ℕ, List, Option, sym, ◌∙◌, Ok, Err}
+use Rattle.std.proofs.Common.{Result, None, Some, suc, ap, ap₂, append_assoc, arith, get_or, inr}
+use Rattle.std.proofs.Common.{length, refl, subst}
+use Rattle.std.proofs.lemmas.List.{length-map, take_all}
+use Rattle.std.specs.{Borrow.Bor, Io.KnownBytes.Appends}
 use Rattle.acceptor.specs.declared.entry.Entry.{Entry}
 use Rattle.batch.specs.Dialing.{Adds, Dialed, Place, asked_so}
 use Rattle.batch.specs.declared.fault.BatchFault.{BatchFault}
-use Rattle.standings.specs.{declared.forms.Form.Form, Reports.report, Standings.status_of}
+use Rattle.standings.specs.{declared.forms.Form.Form, Reports.report}
 use Rattle.standings.specs.declared.polled.{StatusReply.StatusReply, PolledDesk.PolledDesk}
 use Rattle.wire.specs.declared.frame.{Frame.Frame, FrameBody.FrameBody}
 use Rattle.std.specs.Prelude.{◌+◌, ◌-◌, OnOk, drop, take}
-use Rattle.lines.specs.Bytes.{AppendsPart}
 use Rattle.desk_requests.specs.Comparing.{AsksLog, Compares, ComparesAll, ComparesMore, first_told}
 use Rattle.desk_requests.specs.Comparing.{common_length, other_in, standing_desk, with_other}
-use Rattle.desk_requests.specs.Polling.{AsksFor, FailsReport, IsPolled, IsPolledBy, Outside}
-use Rattle.desk_requests.specs.Polling.{PollsAll, PollsMore, Reports, Tries, foreign, others}
-use Rattle.desk_requests.specs.Polling.{place_at, reply_to, request_of}
-use Rattle.desk_requests.specs.Watching.{FailsWatch, HasWatched, Watches}
-use Rattle.desk_requests.specs.declared.fault.DeskFault.{DeskFault}
+use Rattle.desk_requests.specs.Polling.{AsksFor, IsPolled, PollsAll, PollsMore, Tries, foreign}
+use Rattle.desk_requests.specs.{Polling.place_at, Polling.reply_to, Polling.request_of}
+use Rattle.desk_requests.specs.Watching.{Watches}
 use Rattle.desk_requests.specs.declared.polling.{Inquiry.Inquiry, Question.Question}
 use Rattle.standings.specs.declared.polled.StatusReply.TheVariants as reply
-use Rattle.lines.specs.declared.fault.RunFault.TheVariants as run
-use Rattle.desk_requests.specs.declared.fault.DeskFault.TheVariants as fault
-use Rattle.desk_requests.specs.declared.polling.Question.TheVariants as asking
 
 -- the first of these desks was asked, and is the reply
 pub first_replies : (p : Place) (question : Question) (hall : ℕ) (desks : List ℕ)
@@ -36,32 +31,8 @@ first_replies p question hall [] old new request answer said some is told other 
 first_replies p question hall (desk ∷ desks) old new request answer said some is told other says = (
   answer,
   new,
-  subst (λ f. Adds p old new (asked_so f answer ∷ [])) is told,
+  rw is at told,
   inr (other, refl, says),
-)
-
--- they were asked once more, or not
-pub asked_again : (p : Place) (question next : Question) (later : List Question) (hall desk : ℕ)
-    (desks : List ℕ) (a b c : Option (List Dialed)) (first said : Option StatusReply)
-    → desks ≡ desk ∷ others desk → Tries p question hall desks a b first
-    → first ≡ Some reply.NoAnswer → IsPolledBy p next later hall desk b c said
-    → IsPolledBy p question (next ∷ later) hall desk a c said
-asked_again p question next later hall desk desks a b c first said is one none other = (
-  first,
-  b,
-  subst (λ l. Tries p question hall l a b first) is one,
-  inl (none, other),
-)
-
-pub asked_once : (p : Place) (question next : Question) (later : List Question) (hall desk : ℕ)
-    (desks : List ℕ) (a b : Option (List Dialed)) (first : Option StatusReply)
-    → desks ≡ desk ∷ others desk → Tries p question hall desks a b first
-    → first ≢ Some reply.NoAnswer → IsPolledBy p question (next ∷ later) hall desk a b first
-asked_once p question next later hall desk desks a b first is one some = (
-  first,
-  b,
-  subst (λ l. Tries p question hall l a b first) is one,
-  inr (some, refl, refl),
 )
 
 polls_next : (q : Inquiry) (desk : ℕ) (first : Bor (List ℕ)) (rest : List (Bor (List ℕ)))
@@ -108,14 +79,7 @@ compares_next : (q : Inquiry) (position end : ℕ) (known told next : Option (Li
 compares_next q position end known told next other one rest before mid after a b c asks is added
     first more = (
       with_other one other ∷ more.0,
-      (
-        told,
-        b,
-        more.0,
-        asks,
-        subst (λ k. Compares q position end k rest more.0 b c) first more.1,
-        ap (λ o. with_other one o ∷ more.0) is,
-      ),
+      (told, b, more.0, asks, rw first at more.1, ap (λ o. with_other one o ∷ more.0) is),
       more.2 ∙ ap (λ l. l ++ more.0) added ∙ append_assoc before (with_other one other ∷ []) more.0,
     )
 
@@ -146,9 +110,7 @@ pub compares_all : (q : Inquiry) (polled before after : List PolledDesk) (end fr
     → ComparesAll q polled after old new
 compares_all q polled before after end from old new shortest last none more =
     let all : after ≡ more.0 = more.2 ∙ ap (λ l. l ++ more.0) none in
-    subst (λ l. ComparesAll q polled l old new) (sym all)
-    (subst (λ e. Compares q (e - 400) e None polled more.0 old new) shortest
-    (subst (λ f. Compares q f end None polled more.0 old new) last more.1))
+    rw (all, ← shortest, ← last) more.1
 
 -- all were asked at, and their logs were compared
 pub polls_all : (q : Inquiry) (before told shown compared : List PolledDesk)
@@ -157,13 +119,7 @@ pub polls_all : (q : Inquiry) (before told shown compared : List PolledDesk)
     → ComparesAll q shown compared mid new → PollsAll q compared old new
 polls_all q before told shown compared old mid new none h is alike =
     let here : told ≡ h.0 = h.1 ∙ ap (λ l. l ++ h.0) none in
-    record {
-      told = h.0;
-      mid = mid;
-      at = h.2;
-      asked = h.3;
-      compared = subst (λ l. ComparesAll q l compared mid new) (is ∙ here) alike;
-    }
+    record { told = h.0; mid = mid; at = h.2; asked = h.3; compared = rw (is, here) at alike }
 
 compares_length : (q : Inquiry) (position end : ℕ) (known : Option (List Entry))
     (polled compared : List PolledDesk) (old new : Option (List Dialed))
@@ -181,32 +137,6 @@ polls_few q compared old new h =
     ∙ sym (length-map h.told (λ (p : PolledDesk). p.address.now)) ∙ ap length h.at
     ∙ length-map q.addresses.now (λ (a : Bor (List ℕ)). a.now)
 
--- the report was written
-pub reports : (form : Form) (q : Inquiry) (polled shown counted : List PolledDesk)
-    (text bytes : List ℕ) (status : ℕ) (o : Outside)
-    → PollsAll q polled o.dialed o.dialed_then → shown ≡ polled → counted ≡ polled
-    → text ≡ report form q.hall shown → bytes ≡ text → status ≡ status_of counted
-    → Appends o.old o.new bytes → Reports form q status o
-reports form q polled shown counted text bytes status o asked hs hc ht hb hst written = record {
-  polled = polled;
-  asked = asked;
-  written = subst (Appends o.old o.new) (hb ∙ ht ∙ ap (report form q.hall) hs) written;
-  status_is = hst ∙ ap status_of hc;
-}
-
--- writing it failed
-pub unwritten : (form : Form) (q : Inquiry) (polled shown : List PolledDesk) (text bytes : List ℕ)
-    (o : Outside) → PollsAll q polled o.dialed o.dialed_then → shown ≡ polled
-    → text ≡ report form q.hall shown → bytes ≡ text → AppendsPart o.old o.new bytes
-    → FailsReport (fault.Run run.Write) form q o
-unwritten form q polled shown text bytes o asked hs ht hb written =
-    inr (
-      refl,
-      polled,
-      asked,
-      subst (AppendsPart o.old o.new) (hb ∙ ht ∙ ap (report form q.hall) hs) written,
-    )
-
 -- ---- again and again
 
 pub watches_more : (form : Form) (q : Inquiry) (times : List (List PolledDesk))
@@ -223,23 +153,3 @@ watches_more form q [] polled a b c old mid new h asked written = (
 )
 watches_more form q (one ∷ times) polled a b c old mid new h asked written =
     (h.0, h.1, h.2, h.3, watches_more form q times polled h.0 b c h.1 mid new h.4 asked written)
-
--- one report more was written
-pub watched_on : (form : Form) (q : Inquiry) (status : ℕ) (a b c : Option (List Dialed))
-    (old mid new : Option (List ℕ))
-    → HasWatched form q (record { dialed = a; dialed_then = b; old = old; new = mid })
-    → Reports form q status (record { dialed = b; dialed_then = c; old = mid; new = new })
-    → HasWatched form q (record { dialed = a; dialed_then = c; old = old; new = new })
-watched_on form q status a b c old mid new h one = (
-  h.0 ++ one.polled ∷ [],
-  watches_more form q h.0 one.polled a b c old mid new h.1 one.asked one.written,
-)
-
--- the next one failed
-pub watched_until : (f : DeskFault) (form : Form) (q : Inquiry) (a b c : Option (List Dialed))
-    (old mid new : Option (List ℕ))
-    → HasWatched form q (record { dialed = a; dialed_then = b; old = old; new = mid })
-    → FailsReport f form q (record { dialed = b; dialed_then = c; old = mid; new = new })
-    → FailsWatch f form q (record { dialed = a; dialed_then = c; old = old; new = new })
-watched_until f form q a b c old mid new h fails =
-    record { times = h.0; dialed = b; written = mid; watched = h.1; fails = fails }

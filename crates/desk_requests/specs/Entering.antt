@@ -16,6 +16,7 @@ use Rattle.texts.specs.declared.answer.Answer.{Answer, TheVariants.Done, TheVari
 use Rattle.wire.specs.{Ranges.IsDesk, declared.frame.FrameBody.FrameBody}
 use Rattle.arguments.specs.declared.task.EnterOptions.{EnterOptions}
 use Rattle.desk_requests.specs.{Statuses.fault_of_batch, declared.fault.DeskFault.DeskFault}
+pub use Rattle.desk_requests.specs.Errands.{IsOfPrinting}
 use Rattle.lines.specs.declared.fault.RunFault.TheVariants as run
 use Rattle.desk_requests.specs.declared.fault.DeskFault.TheVariants as fault
 
@@ -153,9 +154,6 @@ pub record IsStopped (f : DeskFault) (r : Receiver) (given : Option ℕ) (waits 
   pub is : f ≡ fault_of_batch why
   pub cause : IsOfAsking why ⊎ Hinders why waits r id text
   pub asked : AddsSo t (Telling unheard (StopsAsking why r id text))
-
-abbrev pub IsOfPrinting : DeskFault → Type 0
-IsOfPrinting f = (f ≡ fault.Run run.Write) ⊎ (f ≡ fault.Run run.NoMemory)
 
 -- it was entered, and this is printed as far as could be
 abbrev pub IsUnprinted : DeskFault → Receiver → Option ℕ → Bool → List ℕ → Told

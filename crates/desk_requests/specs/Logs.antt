@@ -3,7 +3,7 @@ use Rattle.std.specs.Prelude.{◌≡◌, ◌⊎◌, [], ℕ, List, Option}
 use Rattle.std.specs.Io.KnownBytes.{Keeps, Appends}
 use Rattle.acceptor.specs.declared.entry.Entry.{Entry}
 use Rattle.archive.specs.{Archive.archive_from, Replayed.IsReplayed}
-use Rattle.batch.specs.{Asking.IsOfAsking, Dialing.Adds, Dialing.Told}
+use Rattle.batch.specs.{Asking.IsOfAsking, Dialing.Adds, Dialing.Asked, Dialing.Told}
 use Rattle.batch.specs.Logs.{AddsSo, FailsLog, TellsLog}
 use Rattle.batch.specs.declared.{asking.Receiver.Receiver, fault.BatchFault.BatchFault}
 use Rattle.log_rows.specs.Rows.{rows}
@@ -35,20 +35,22 @@ abbrev pub RefusesDesk : DeskFault → Receiver → Told → Option (List ℕ) �
 RefusesDesk f r t old new =
     (f ≡ fault.BadDesk) × (¬ IsDesk r.desk) × Adds t.place t.old t.new [] × Keeps old new
 
--- the desk did not report its log, and nothing was written
-abbrev pub FailsTelling : DeskFault → Receiver → Told → Option (List ℕ) → Option (List ℕ) → Type 0
-FailsTelling f r t old new =
+-- a request failed as it says, and nothing was written
+abbrev pub FailsToAsk : DeskFault → Receiver → (BatchFault → List Asked → Type 0) → Told
+    → Option (List ℕ) → Option (List ℕ) → Type 0
+FailsToAsk f r Fails t old new =
     (b : BatchFault) × (f ≡ fault_of_batch b) × IsDesk r.desk × IsOfAsking b
-    × AddsSo t (FailsLog b r) × Keeps old new
+    × AddsSo t (Fails b) × Keeps old new
 
--- it reported its log, and writing failed
-abbrev pub FailsPrinting : DeskFault → Receiver → LogForm → ℕ → Told → Option (List ℕ)
-    → Option (List ℕ) → Type 0
-FailsPrinting f r form from t old new =
-    IsOfPrinting f × IsDesk r.desk × (log : List Entry) × AddsSo t (TellsLog r log)
-    × AppendsPart old new (printed_log form from log)
+-- what was asked for came, and writing this text of it failed
+abbrev pub FailsToWrite : {A : Type 0} → DeskFault → Receiver → (A → List Asked → Type 0)
+    → (A → List ℕ) → Told → Option (List ℕ) → Option (List ℕ) → Type 0
+FailsToWrite {A} f r Comes text t old new =
+    IsOfPrinting f × IsDesk r.desk × (came : A) × AddsSo t (Comes came)
+    × AppendsPart old new (text came)
 
 abbrev pub FailsTold : DeskFault → Receiver → LogForm → ℕ → Told → Option (List ℕ)
     → Option (List ℕ) → Type 0
 FailsTold f r form from t old new =
-    RefusesDesk f r t old new ⊎ (FailsTelling f r t old new ⊎ FailsPrinting f r form from t old new)
+    RefusesDesk f r t old new ⊎ (FailsToAsk f r (λ b. FailsLog b r) t old new
+    ⊎ FailsToWrite f r (TellsLog r) (printed_log form from) t old new)

@@ -13,35 +13,14 @@ use Rattle.desk_requests.specs.declared.fault.DeskFault.TheVariants as fault
 
 abbrev pub status_of : DeskFault → ℕ
 status_of (fault.Run e) = status_of_run e
-status_of fault.BadDesk = 3
-status_of fault.TextTooLong = 3
-status_of (fault.Refused refusal) = 3
+status_of (fault.KeyFile e) = key_status e
 status_of fault.CannotConnect = 4
 status_of fault.NoAnswer = 4
 status_of fault.Late = 4
-status_of fault.NoKey = 3
-status_of fault.OtherKey = 3
-status_of fault.HasKey = 3
-status_of (fault.KeyFile e) = key_status e
-status_of fault.KeyThere = 3
-status_of fault.SameKeys = 3
-status_of fault.NoHallKey = 3
-status_of fault.WrongDesk = 3
-status_of fault.DamagedStore = 3
 status_of fault.StoreDevice = 4
 status_of fault.StoreDown = 4
 status_of fault.CannotListen = 4
-status_of fault.NoMoreIds = 3
-status_of fault.StillPending = 3
-status_of fault.Lost = 3
-status_of fault.NoStore = 3
-status_of fault.StoreThere = 3
-status_of fault.SameAddresses = 3
-status_of (fault.UnknownHost desk) = 3
-status_of fault.BadHallFile = 3
-status_of fault.NoCommand = 3
-status_of fault.AnotherCommand = 3
-status_of fault.AtRefusal = 3
+status_of _ = 3
 
 -- what is said of a desk that was waited for in vain: its address, and for how many seconds
 abbrev pub in_vain_text : Contact → List ℕ

@@ -331,7 +331,7 @@ pub fn tell_serving<F: Write>(faults: &mut F, fault: DeskFault, service: Service
 {
     match fault {
         DeskFault::NoStore | DeskFault::StoreThere => {
-            let store = service.store;
+            let store = service.options.store;
             let told = StoreNotice { fault, store };
             let _ = writeln!(faults, "{told}");
         }

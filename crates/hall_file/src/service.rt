@@ -1,4 +1,4 @@
-//! What is asked of a desk that is to serve.
+//! A desk that is to serve, and what is asked of it.
 
 use wire::Version;
 
@@ -13,17 +13,15 @@ pub enum StoreOrigin {
     New,
 }
 
-/// What is asked of a desk that is to serve.
+/// What is asked of a desk that is to serve, in whichever hall.
 #[derive(Clone, Copy)]
-pub struct Service<'a> {
-    /// The hall's number.
-    pub hall: u32,
+pub struct ServeOptions<'a> {
     /// The desk's number, from 1.
     pub desk: u8,
     /// The path of its store.
     pub store: &'a str,
-    /// Whether that store is opened or made. A hall's file says `Open` or `New`, and then the
-    /// addresses have to be found as well, each of another desk.
+    /// Whether that store is opened or made. In the hall of a file it is `Open` or `New`, and then
+    /// the addresses have to be found as well, each of another desk.
     pub making: StoreOrigin,
     /// How many seconds a client may be silent, and take nothing of what is sent to it.
     pub patience: u32,
@@ -44,6 +42,15 @@ pub struct Service<'a> {
     pub old_key: Option<&'a str>,
     /// Whether callers without a key may ask for sheets, which is said beside the hall's key.
     pub open_sheets: bool,
+}
+
+/// A desk that is to serve.
+#[derive(Clone, Copy)]
+pub struct Service<'a> {
+    /// The hall's number.
+    pub hall: u32,
     /// Where the desks of the hall listen, in the order of their numbers.
     pub addresses: &'a [&'a str],
+    /// What is asked of the desk.
+    pub options: ServeOptions<'a>,
 }

@@ -1,6 +1,6 @@
 -- The first address that is found for a text, and those that are found for several.
 use Rattle.std.proofs.Common.{◌≡◌, ◌<◌, ◌+◌, ℕ, zero, suc, List, [], ◌∷◌, ◌++◌, Option, None, Some}
-use Rattle.std.proofs.Common.{subst, sym, ap, ◌∙◌, take, map, length, arith, Bor, get_or, add-one}
+use Rattle.std.proofs.Common.{ap, ◌∙◌, take, map, length, arith, Bor, get_or, add-one}
 use Rattle.std.proofs.{Math.Seq.take-suc, lemmas.List.map-append}
 use Rattle.std.specs.Prelude.{IsSomeAnd, MatchOption}
 use Rattle.std.specs.{Net.Grammar.IsSocketText, declared.net.socket_addr.SocketAddr.SocketAddr}
@@ -23,8 +23,7 @@ pub found_first : (X : Type 0) (text : List ℕ) (n m : ℕ) (items rest : List 
     → MatchOption r (0 < n → (length items ≡ 0) × X) (λ x. (items ≡ x ∷ rest) × (m + 1 ≡ n))
     → IsSomeAnd r (IsSocketText text)
 found_first X text n m items rest None h none = absurd (one_comes n items h.0 h.1 none)
-found_first X text n m items rest (Some x) h some =
-    subst (λ b. IsSocketText text b) (sym (first_is n items rest h.0 x h.1 some.0)) h.2
+found_first X text n m items rest (Some x) h some = rw (first_is n items rest h.0 x h.1 some.0) h.2
 
 pub found_next : (texts : List (List ℕ)) (founds : List (Option SocketAddr)) (text : List ℕ)
     (found : Option SocketAddr) → AreFoundFor texts founds → IsFoundFor text found
@@ -43,6 +42,6 @@ found_step texts i d founds found within all one =
     ≡ map (λ (t : Bor (List ℕ)). t.now) (take i texts) ++ (get_or texts i d).now ∷ [] =
     rw add-one (ap (map (λ (t : Bor (List ℕ)). t.now)) (take-suc texts i d within)
     ∙ map-append (λ (t : Bor (List ℕ)). t.now) (take i texts) (get_or texts i d ∷ [])) in
-    subst (λ ts. AreFoundFor ts (founds ++ found ∷ [])) (sym next)
+    rw next
     (found_next (map (λ (t : Bor (List ℕ)). t.now) (take i texts)) founds (get_or texts i d).now
     found all one)

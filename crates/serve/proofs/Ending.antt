@@ -34,11 +34,9 @@ pub last_cut : {V : Type 0} {way : Way V} (t : Turn) (a b : Point way) (f : Serv
     → IsOfLine f → HasServed served t a b → Appends t.out.old mid (first_line t.home t.len)
     → AppendsPart mid t.out.new (last_line served.connections) → FailsServing f t a b
 last_cut t a b f served mid (inl is) h first last =
-    subst (λ (f : ServeFault). FailsServing f t a b) (sym is)
-    (inr (served, h, append_part _ mid _ _ _ first last))
+    rw is (inr (served, h, append_part _ mid _ _ _ first last))
 last_cut t a b f served mid (inr is) h first last =
-    subst (λ (f : ServeFault). FailsServing f t a b) (sym is)
-    (inr (inr (served, h, append_part _ mid _ _ _ first last)))
+    rw is (inr (inr (served, h, append_part _ mid _ _ _ first last)))
 
 -- both lines are there
 pub ends_well : {V : Type 0} {way : Way V} (t : Turn) (a b : Point way) (count : ℕ) (e : ServingEnd)
@@ -46,32 +44,17 @@ pub ends_well : {V : Type 0} {way : Way V} (t : Turn) (a b : Point way) (count :
     → HasServed (served_to count e starved) t a b
     → Appends t.out.old t.out.new (both_lines t.home t.len count) → r ≡ ends_by e
     → OnOk r (Serves t a b)
-ends_well t a b count e starved r h w is =
-    subst (λ (r : Result (Unit {0}) ServeFault). OnOk r (Serves t a b)) (sym is) (by e h)
-  where
-    by : (e : ServingEnd) → HasServed (served_to count e starved) t a b
-        → OnOk (ends_by e) (Serves t a b)
-    by over.All h = inl (count, starved, h, w)
-    by over.Stopped h = inr (count, starved, h, w)
-    by over.Down h = tt
-    by over.Failed h = tt
-    by over.Tired h = tt
-    by over.NoMemory h = tt
+ends_well t a b count over.All starved r h w is = rw is (inl (count, starved, h, w))
+ends_well t a b count over.Stopped starved r h w is = rw is (inr (count, starved, h, w))
+ends_well t a b count _ starved r h w is = rw is tt
 
 pub ends_ill : {V : Type 0} {way : Way V} (t : Turn) (a b : Point way) (count : ℕ) (e : ServingEnd)
     (starved : Bool) (r : Result (Unit {0}) ServeFault)
     → HasServed (served_to count e starved) t a b
     → Appends t.out.old t.out.new (both_lines t.home t.len count) → r ≡ ends_by e
     → IfErr r (λ f. FailsServing f t a b)
-ends_ill t a b count e starved r h w is =
-    subst (λ (r : Result (Unit {0}) ServeFault). IfErr r (λ f. FailsServing f t a b)) (sym is)
-    (by e h)
-  where
-    by : (e : ServingEnd) → HasServed (served_to count e starved) t a b
-        → IfErr (ends_by e) (λ f. FailsServing f t a b)
-    by over.All h = tt
-    by over.Stopped h = tt
-    by over.Down h = (count, starved, h, w)
-    by over.Failed h = inl (count, starved, h, w)
-    by over.Tired h = inr (count, starved, h, w)
-    by over.NoMemory h = inl (count, starved, h, w)
+ends_ill t a b count over.Down starved r h w is = rw is (count, starved, h, w)
+ends_ill t a b count over.Failed starved r h w is = rw is (inl (count, starved, h, w))
+ends_ill t a b count over.Tired starved r h w is = rw is (inr (count, starved, h, w))
+ends_ill t a b count over.NoMemory starved r h w is = rw is (inl (count, starved, h, w))
+ends_ill t a b count _ starved r h w is = rw is tt

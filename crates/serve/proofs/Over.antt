@@ -1,7 +1,7 @@
 -- The desk over its file, and what was printed.
-use Rattle.std.proofs.Common.{◌≡◌, ◌⊎◌, inl, inr, sym, ap, subst, ◌∙◌, ℕ, ◌≤◌, List, ◌++◌, OnOk}
-use Rattle.std.proofs.Common.{append_assoc, append-nil, [], Option, None, Some, IfSome, Result}
-use Rattle.std.{proofs.Common.IfErr, proofs.Common.arith, specs.Io.KnownBytes.Keeps}
+use Rattle.std.proofs.Common.{◌≡◌, ◌⊎◌, inl, inr, sym, ap, ◌∙◌, ℕ, ◌≤◌, ◌++◌, OnOk, [], None, Some}
+use Rattle.std.proofs.Common.{List, append_assoc, append-nil, Option, IfSome, Result, IfErr, arith}
+use Rattle.std.specs.Io.KnownBytes.{Keeps}
 use Rattle.std.proofs.lemmas.Result.{IfErr-weaker, on_ok_weaker}
 use Rattle.lines.specs.Bytes.{AppendsPart}
 use Rattle.multiplex.proofs.Coming.{few_come}
@@ -19,8 +19,8 @@ use Rattle.serve.specs.Serves.{period_of, served_to, terms_of, turn_of, with_cli
 use Rattle.hall_file.specs.declared.service.Service.{Service}
 use Rattle.serve.specs.declared.fault.ServeFault.TheVariants as fault
 
-few_of : (s : Service) (count : ℕ) → count ≤ most_of s.connections → IsFew count s
-few_of s count few = by s.connections few
+few_of : (s : Service) (count : ℕ) → count ≤ most_of s.options.connections → IsFew count s
+few_of s count few = by s.options.connections few
   where
     by : (most : Option ℕ) → count ≤ most_of most → IfSome most (λ m. count ≤ m)
     by None few = tt
@@ -31,7 +31,7 @@ few_served : {V : Type 0} {way : Way V} (s : Service) (d : Access) (len : ℕ)
     → HasServed served (turn_of s d (home_of s) len o) a b → IsFew served.connections s
 few_served s d len o a b served h =
     few_of s served.connections
-    (few_come served (home_of s) (terms_of s d) (period_of s.tick) (with_clients h.0 a)
+    (few_come served (home_of s) (terms_of s d) (period_of s.options.tick) (with_clients h.0 a)
     (with_clients h.1 b) None None h.2 h.3)
 
 prints_to : {V : Type 0} {way : Way V} (s : Service) (d : Access) (len : ℕ)
@@ -105,18 +105,7 @@ prints_at fault.Write s d len o a b allowed h = prints_part s d len o a b allowe
 prints_at fault.NoMemory s d len o a b allowed (inl h) =
     inr (part_of s o (prints_to s d len o a b _ allowed h))
 prints_at fault.NoMemory s d len o a b allowed (inr h) = inr (prints_part s d len o a b allowed h)
-prints_at fault.BadCount s d len o a b allowed h = absurd h
-prints_at fault.BadDesk s d len o a b allowed h = absurd h
-prints_at fault.WrongDesk s d len o a b allowed h = absurd h
-prints_at fault.Damaged s d len o a b allowed h = absurd h
-prints_at fault.Device s d len o a b allowed h = absurd h
-prints_at fault.SameAddresses s d len o a b allowed h = absurd h
-prints_at fault.NoStore s d len o a b allowed h = absurd h
-prints_at fault.StoreThere s d len o a b allowed h = absurd h
-prints_at (fault.UnknownHost desk) s d len o a b allowed h = absurd h
-prints_at fault.NoHallKey s d len o a b allowed h = absurd h
-prints_at (fault.KeyFile e) s d len o a b allowed h = absurd h
-prints_at fault.SameKeys s d len o a b allowed h = absurd h
+prints_at _ s d len o a b allowed h = absurd h
 
 -- what is in front of serving prints nothing
 pub hindered : (f : ServeFault) (s : Service) (o : Output) → Hinders f s → Keeps o.old o.new
@@ -159,8 +148,8 @@ by_opening fault.CannotListen s h allowed = allowed
 by_opening _ s h allowed = absurd h
 
 pub by_listener : (f : ServeFault) (s : Service) → IsOfListener f → IsAllowed s → Hinders f s
-by_listener f s (inl is) allowed = subst (λ (f : ServeFault). Hinders f s) (sym is) allowed
-by_listener f s (inr is) allowed = subst (λ (f : ServeFault). Hinders f s) (sym is) allowed
+by_listener f s (inl is) allowed = rw is allowed
+by_listener f s (inr is) allowed = rw is allowed
 
 -- ---- the desk that was opened is the one that was asked for
 
@@ -169,8 +158,7 @@ pub printed : {V : Type 0} {way : Way V} (s : Service) (d : Access) (home : Home
     → home ≡ home_of s → IsAllowed s
     → OnOk r (Serves (turn_of s d home len o) a b) → OnOk r (Prints s o)
 printed s d home len o a b r is allowed h =
-    on_ok_weaker r (λ served. prints s d len o a b allowed
-    (subst (λ (p : Home). Serves (turn_of s d p len o) a b) is served)) h
+    on_ok_weaker r (λ served. prints s d len o a b allowed (rw is at served)) h
 
 ends_printed : {V : Type 0} {way : Way V} (s : Service) (d : Access) (len : ℕ)
     (o : Output) (a b : Point way) (f : ServeFault) → IsAllowed s
@@ -184,6 +172,4 @@ pub printed_fault : {V : Type 0} {way : Way V} (s : Service) (d : Access) (home 
     → home ≡ home_of s → IsAllowed s → IfErr r (λ f. (IsOfListener f × Keeps o.old o.new)
     ⊎ FailsServing f (turn_of s d home len o) a b) → IfErr r (λ f. PrintsAt f s o)
 printed_fault s d home len o a b r is allowed h =
-    IfErr-weaker r _ _ (λ f ends. ends_printed s d len o a b f allowed
-    (subst (λ (p : Home). (IsOfListener f × Keeps o.old o.new)
-    ⊎ FailsServing f (turn_of s d p len o) a b) is ends)) h
+    IfErr-weaker r _ _ (λ f ends. ends_printed s d len o a b f allowed (rw is at ends)) h

@@ -18,11 +18,12 @@ FailsOn k w t period first last before after f =
 
 pub failed_there : {K X : Type 0} (k : KeeperOf K) (w : WriteOf X) (s : Service) (d : Access)
     (t : ServingOptions) (p : Option ℕ) (first last : NodeValue K) (before after : X)
-    (r : Result (Unit {0}) ServeFault) → t ≡ terms_of s d → p ≡ period_of s.tick
+    (r : Result (Unit {0}) ServeFault) → t ≡ terms_of s d → p ≡ period_of s.options.tick
     → IfErr r (λ f. FailsOn k w t p first last before after f)
     → IfErr r (λ f. FailsThere k w s d first last before after f)
 failed_there k w s d t p first last before after r is same h =
-    IfErr-weaker r (λ f. FailsOn k w (terms_of s d) (period_of s.tick) first last before after f)
+    IfErr-weaker r
+    (λ f. FailsOn k w (terms_of s d) (period_of s.options.tick) first last before after f)
     (λ f. FailsThere k w s d first last before after f) (λ f ends. inr ends)
     (subst (λ q. IfErr r (λ f. FailsOn k w (terms_of s d) q first last before after f)) same
     (subst (λ z. IfErr r (λ f. FailsOn k w z p first last before after f)) is h))

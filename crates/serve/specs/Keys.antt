@@ -11,14 +11,14 @@ use Rattle.serve.specs.declared.fault.ServeFault.TheVariants as fault
 -- the file of a second key, if one is named: that of the key that was the hall's, or else that of
 -- the entry key
 abbrev pub second_file : Service → Option (Bor (List ℕ))
-second_file s = option_or s.old_key s.entry_key
+second_file s = option_or s.options.old_key s.options.entry_key
 
 -- where there is no hall's key, no second one is asked for, and nobody without a key is let in
 abbrev pub IsKeyed : Service → Type 0
-IsKeyed s = IsNone s.key → IsNone (second_file s) × (s.open_sheets ≡ false)
+IsKeyed s = IsNone s.options.key → IsNone (second_file s) × (s.options.open_sheets ≡ false)
 
 abbrev pub LacksKey : Service → Type 0
-LacksKey s = IsNone s.key × (IsSome (second_file s) ⊎ (s.open_sheets ≡ true))
+LacksKey s = IsNone s.options.key × (IsSome (second_file s) ⊎ (s.options.open_sheets ≡ true))
 
 -- a key that a file may have
 abbrev pub IsKey : List ℕ → Type 0
@@ -32,10 +32,10 @@ IsSecond s hall (Some key) = IsSome (second_file s) × IsKey key × (key ≢ hal
 -- nothing is asked of the clients of a desk that has no key; and else one of its keys, but that
 -- callers without one may ask for sheets, where that is said
 abbrev pub AreDoors : Service → Access → Type 0
-AreDoors s Open = IsNone s.key
+AreDoors s Open = IsNone s.options.key
 AreDoors s (Locked locks) =
-    IsSome s.key × IsKey locks.hall × IsSecond s locks.hall locks.entry
-    × (locks.old ≡ is_some s.old_key) × (locks.sheets ≡ s.open_sheets)
+    IsSome s.options.key × IsKey locks.hall × IsSecond s locks.hall locks.entry
+    × (locks.old ≡ is_some s.options.old_key) × (locks.sheets ≡ s.options.open_sheets)
 
 abbrev pub hall_key : Access → Option (List ℕ)
 hall_key Open = None
@@ -61,6 +61,6 @@ IsOfSecond _ s = ⊥
 
 -- one of the two
 abbrev pub IsOfKeys : ServeFault → Service → Type 0
-IsOfKeys (fault.KeyFile e) s = IsSome s.key
-IsOfKeys fault.SameKeys s = IsSome s.key × IsSome (second_file s)
+IsOfKeys (fault.KeyFile e) s = IsSome s.options.key
+IsOfKeys fault.SameKeys s = IsSome s.options.key × IsSome (second_file s)
 IsOfKeys _ s = ⊥

@@ -28,7 +28,7 @@ both_lines home len count = first_line home len ++ last_line count
 
 -- the desk, of a hall of as many desks as there are addresses
 abbrev pub home_of : Service → Home
-home_of s = home_at s.hall s.desk (length s.addresses.now)
+home_of s = home_at s.hall s.options.desk (length s.addresses.now)
 
 abbrev pub IsCount : Service → Type 0
 IsCount s = (length s.addresses.now ≡ 3) ⊎ (length s.addresses.now ≡ 5)
@@ -48,7 +48,7 @@ texts_of s = map (λ t. t.now) s.addresses.now
 
 -- one of the desks of a hall, and of a hall's file each desk has an address of its own
 abbrev pub IsInHall : Service → Type 0
-IsInHall s = IsPlaced s × (IsOfFile s.making → AreApart (texts_of s))
+IsInHall s = IsPlaced s × (IsOfFile s.options.making → AreApart (texts_of s))
 
 -- and without a hall's key nothing is said of others
 abbrev pub IsAllowed : Service → Type 0
@@ -58,7 +58,7 @@ IsAllowed s = IsInHall s × IsKeyed s
 abbrev pub IsRefused : ServeFault → Service → Type 0
 IsRefused fault.BadCount s = ¬ IsCount s
 IsRefused fault.BadDesk s = IsCount s × (¬ IsPlaced s)
-IsRefused fault.SameAddresses s = IsPlaced s × IsOfFile s.making × HasTwins (texts_of s)
+IsRefused fault.SameAddresses s = IsPlaced s × IsOfFile s.options.making × HasTwins (texts_of s)
 IsRefused fault.NoHallKey s = IsInHall s × LacksKey s
 IsRefused _ s = ⊥
 
@@ -81,10 +81,10 @@ IsOfStore _ = ⊥
 
 -- those of the file and of the desks' addresses, before the desk is opened
 abbrev pub IsOfOpening : ServeFault → Service → Type 0
-IsOfOpening fault.NoStore s = s.making ≡ making.Open
-IsOfOpening fault.StoreThere s = s.making ≡ making.New
-IsOfOpening (fault.UnknownHost desk) s = IsOfFile s.making × IsNoAddress (texts_of s) desk
-IsOfOpening fault.CannotListen s = s.making ≡ making.New
+IsOfOpening fault.NoStore s = s.options.making ≡ making.Open
+IsOfOpening fault.StoreThere s = s.options.making ≡ making.New
+IsOfOpening (fault.UnknownHost desk) s = IsOfFile s.options.making × IsNoAddress (texts_of s) desk
+IsOfOpening fault.CannotListen s = s.options.making ≡ making.New
 IsOfOpening f s = IsOfStore f
 
 -- each fault of the store goes by its own name
@@ -112,7 +112,7 @@ output old new = record { old = old; new = new }
 
 -- at most as many clients came as the arguments say, if they say it
 abbrev pub IsFew : ℕ → Service → Type 0
-IsFew count s = IfSome s.connections (λ most. count ≤ most)
+IsFew count s = IfSome s.options.connections (λ most. count ≤ most)
 
 -- the desk served, and printed both lines
 pub record Prints (s : Service) (o : Output) : Type 0 where
@@ -135,13 +135,14 @@ pub record PrintsPart (s : Service) (o : Output) : Type 0 where
 abbrev pub Hinders : ServeFault → Service → Type 0
 Hinders fault.BadCount s = ¬ IsCount s
 Hinders fault.BadDesk s = IsCount s × (¬ IsPlaced s)
-Hinders fault.SameAddresses s = IsPlaced s × IsOfFile s.making × HasTwins (texts_of s)
+Hinders fault.SameAddresses s = IsPlaced s × IsOfFile s.options.making × HasTwins (texts_of s)
 Hinders fault.NoHallKey s = IsInHall s × LacksKey s
 Hinders (fault.KeyFile e) s = IsAllowed s × IsOfKeys (fault.KeyFile e) s
 Hinders fault.SameKeys s = IsAllowed s × IsOfKeys fault.SameKeys s
-Hinders fault.NoStore s = IsAllowed s × (s.making ≡ making.Open)
-Hinders fault.StoreThere s = IsAllowed s × (s.making ≡ making.New)
-Hinders (fault.UnknownHost desk) s = IsAllowed s × IsOfFile s.making × IsNoAddress (texts_of s) desk
+Hinders fault.NoStore s = IsAllowed s × (s.options.making ≡ making.Open)
+Hinders fault.StoreThere s = IsAllowed s × (s.options.making ≡ making.New)
+Hinders (fault.UnknownHost desk) s =
+    IsAllowed s × IsOfFile s.options.making × IsNoAddress (texts_of s) desk
 Hinders fault.Down s = ⊥
 Hinders fault.Write s = ⊥
 Hinders _ s = IsAllowed s

@@ -37,9 +37,9 @@ most_of None = 2 ^ 64 - 1
 -- each
 abbrev pub terms_of : Service → Access → ServingOptions
 terms_of s doors = record {
-  wire = s.wire;
-  most = most_of s.connections;
-  patience = s.patience * 1000 + 1000;
+  wire = s.options.wire;
+  most = most_of s.options.connections;
+  patience = s.options.patience * 1000 + 1000;
   doors = doors;
 }
 
@@ -131,7 +131,7 @@ unheard = heard None None
 
 -- what is known of a desk that serves as it is asked for, with a log of this length at first
 abbrev pub turn_of : Service → Access → Home → ℕ → Output → Turn
-turn_of s doors home len o = turn home (terms_of s doors) (period_of s.tick) len o unheard
+turn_of s doors home len o = turn home (terms_of s doors) (period_of s.options.tick) len o unheard
 
 -- a node, where nothing is said of what the other desks were handed
 abbrev pub resting : {K : Type 0} → (k : KeeperOf K) → (wire : Version) → NodeValue K
@@ -145,15 +145,15 @@ resting k wire node = record {
 -- keys say: from its state at the opening, with the length of its log in the first line, to its
 -- state at the end.
 pub record IsRun {K : Type 0} (k : KeeperOf K) (files : Image) (s : Service) (o : Output)
-    (Does : Turn → Point (speaking (Handles k) (Settles k) s.wire)
-    → Point (speaking (Handles k) (Settles k) s.wire) → Type 0) : Type 0 where
+    (Does : Turn → Point (speaking (Handles k) (Settles k) s.options.wire)
+    → Point (speaking (Handles k) (Settles k) s.options.wire) → Type 0) : Type 0 where
   pub first : NodeValue K
   pub last : NodeValue K
   pub doors : Access
   pub keyed : AreDoors s doors
-  pub opened : IsOpenedOn k s.making files (home_of s) first
+  pub opened : IsOpenedOn k s.options.making files (home_of s) first
   pub served : Does (turn_of s doors (home_of s) (length first.desk.log) o)
-      (resting k s.wire first) (resting k s.wire last)
+      (resting k s.options.wire first) (resting k s.options.wire last)
 
 -- nothing was printed and nobody served, by this cause
 pub record IsHindered (f : ServeFault) (s : Service) (o : Output) : Type 0 where
@@ -216,16 +216,16 @@ told_there k w s doors node before after =
 abbrev pub ServesThere : {K X : Type 0} → KeeperOf K → WriteOf X → Service → Access → NodeValue K
     → NodeValue K → (before after : X) → Type 0
 ServesThere k w s doors first last before after =
-    Serves (told_there k w s doors first before after) (resting k s.wire first)
-    (resting k s.wire last)
+    Serves (told_there k w s doors first before after) (resting k s.options.wire first)
+    (resting k s.options.wire last)
 
 -- it could not listen there, and nothing was printed; or it served, and ended by this fault
 abbrev pub FailsThere : {K X : Type 0} → KeeperOf K → WriteOf X → Service → Access → NodeValue K
     → NodeValue K → (before after : X) → ServeFault → Type 0
 FailsThere k w s doors first last before after f =
     (IsOfListener f × Keeps (w.contents before) (w.contents after))
-    ⊎ FailsServing f (told_there k w s doors first before after) (resting k s.wire first)
-    (resting k s.wire last)
+    ⊎ FailsServing f (told_there k w s doors first before after) (resting k s.options.wire first)
+    (resting k s.options.wire last)
 
 -- the desk that was opened on these files served
 abbrev pub RunsDesk : {K : Type 0} → KeeperOf K → Image → Service → Output → Type 0
@@ -239,8 +239,8 @@ FailsDesk k files s o f = IsHindered f s o ⊎ IsRun k files s o (FailsServing f
 -- the same of the desk that this keeper keeps, whatever files it was opened on
 abbrev pub RunsKept : {K : Type 0} → KeeperOf K → K → Service → Output → Type 0
 RunsKept k keeper s o =
-    (files : Image) → KeepsFor k s.making files (home_of s) keeper → RunsDesk k files s o
+    (files : Image) → KeepsFor k s.options.making files (home_of s) keeper → RunsDesk k files s o
 
 abbrev pub FailsKept : {K : Type 0} → KeeperOf K → K → Service → Output → ServeFault → Type 0
 FailsKept k keeper s o f =
-    (files : Image) → KeepsFor k s.making files (home_of s) keeper → FailsDesk k files s o f
+    (files : Image) → KeepsFor k s.options.making files (home_of s) keeper → FailsDesk k files s o f

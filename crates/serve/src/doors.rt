@@ -25,7 +25,7 @@ fn key_at(rt: &HostRuntime, path: &str) -> Result<[u8; 32], ServeFault>
 pub(crate) fn second_file<'a>(service: Service<'a>) -> Option<&'a str>
     ensures { result ≡ second_file service.entry }
 {
-    service.old_key.or(service.entry_key)
+    service.options.old_key.or(service.options.entry_key)
 }
 
 /// The second key, where one is asked for. It is not the hall's.
@@ -61,7 +61,7 @@ pub fn doors_of(rt: &HostRuntime, service: Service<'_>) -> Result<Access, ServeF
     ensures ok { IfOk result (AreDoors service.entry) }
     ensures err { IfErr result (λ f. IsOfKeys f service.entry) }
 {
-    let Some(path) = service.key else {
+    let Some(path) = service.options.key else {
         return Ok(Access::Open);
     };
     let hall = match key_at(rt, path) {
@@ -76,8 +76,8 @@ pub fn doors_of(rt: &HostRuntime, service: Service<'_>) -> Result<Access, ServeF
         locks: DeskKeys {
             hall,
             entry,
-            old: service.old_key.is_some(),
-            sheets: service.open_sheets,
+            old: service.options.old_key.is_some(),
+            sheets: service.options.open_sheets,
         },
     })
 }

@@ -84,7 +84,7 @@ pub fn listen<'r>(
 ) -> Result<PeerSockets<'r, HostRuntime>, ServeFault>
     ensures { IfErr result IsOfListener }
 {
-    let place = usize::from(service.desk).saturating_sub(1);
+    let place = usize::from(service.options.desk).saturating_sub(1);
     let found = match service.addresses.get(place) {
         Some(text) => address_of(rt, text),
         None => None,
@@ -153,10 +153,10 @@ pub fn send_rest(
     }
 }
 
-/// The links to the desks of the hall, at the desk's start of this number, whose sockets the poll of
-/// the clients watches. Where the desk has keys, they speak under the hall's, or the one that was
-/// its own. Where lines about desks are wanted, it says which two have one address, and of which no
-/// address was found.
+/// The links to the desks of the hall, at the desk's start of this number, whose sockets the poll
+/// of the clients watches. Where the desk has keys, they speak under the hall's, or the one that
+/// was its own. Where lines about desks are wanted, it says which two have one address, and of
+/// which no address was found.
 pub fn links_to<'r>(
     rt: &'r HostRuntime,
     service: Service<'_>,
@@ -178,7 +178,7 @@ pub fn links_to<'r>(
         return Err(ServeFault::NoMemory);
     };
     let mut lines = PromptLines::new(rt.stderr(), rt.alloc());
-    if !service.quiet {
+    if !service.options.quiet {
         let _ = tell_twins(&mut lines, service.addresses);
         let _ = tell_missing(&mut lines, service.addresses, &addresses);
     }
@@ -189,7 +189,7 @@ pub fn links_to<'r>(
         former: old_key(doors),
     };
     match neighbours(rt, rt.alloc(), &registry, caller, &addresses) {
-        Ok(desks) => Ok(DeskLinks::new(rt.alloc(), desks, lines, service.quiet)),
+        Ok(desks) => Ok(DeskLinks::new(rt.alloc(), desks, lines, service.options.quiet)),
         Err(error) => Err(no_listener(&error)),
     }
 }

@@ -33,7 +33,7 @@ fn placed_home(service: Service<'_>) -> Result<Home, ServeFault>
     };
     let home = Home {
         hall: service.hall,
-        desk: service.desk,
+        desk: service.options.desk,
         desks,
     };
     if !home.is_valid() {
@@ -44,11 +44,12 @@ fn placed_home(service: Service<'_>) -> Result<Home, ServeFault>
 
 /// Refuses two equal addresses of a hall's file.
 fn apart(service: Service<'_>) -> Result<(), ServeFault>
-    ensures ok { OnOk result (IsOfFile service.entry.making → AreApart (texts_of service.entry)) }
+    ensures ok { OnOk result
+        (IsOfFile service.entry.options.making → AreApart (texts_of service.entry)) }
     ensures err { IfErr result (λ f. (f ≡ ServeFault.SameAddresses)
-        × IsOfFile service.entry.making × HasTwins (texts_of service.entry)) }
+        × IsOfFile service.entry.options.making × HasTwins (texts_of service.entry)) }
 {
-    if !is_of_file(service.making) {
+    if !is_of_file(service.options.making) {
         return Ok(());
     }
     match twins_in(service.addresses) {
@@ -62,10 +63,10 @@ fn keyed(service: Service<'_>) -> Result<(), ServeFault>
     ensures ok { OnOk result (IsKeyed service.entry) }
     ensures err { IfErr result (λ f. (f ≡ ServeFault.NoHallKey) × LacksKey service.entry) }
 {
-    if service.key.is_some() {
+    if service.options.key.is_some() {
         return Ok(());
     }
-    if second_file(service).is_some() || service.open_sheets {
+    if second_file(service).is_some() || service.options.open_sheets {
         return Err(ServeFault::NoHallKey);
     }
     Ok(())

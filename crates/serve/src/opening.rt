@@ -64,20 +64,20 @@ pub fn has_bytes<R: Files>(rt: &R, path: &str) -> Result<bool, ServeFault>
 fn may_open(rt: &HostRuntime, service: Service<'_>) -> Result<(), ServeFault>
     ensures { IfErr result (λ f. IsOfOpening f service.entry) }
 {
-    if service.making == StoreOrigin::AsNeeded {
+    if service.options.making == StoreOrigin::AsNeeded {
         return Ok(());
     }
-    let there = match has_bytes(rt, service.store) {
+    let there = match has_bytes(rt, service.options.store) {
         Ok(there) => there,
         Err(fault) => return Err(fault),
     };
-    if let Some(fault) = refusal_of(service.making, there) {
+    if let Some(fault) = refusal_of(service.options.making, there) {
         return Err(fault);
     }
     if let Some(desk) = unknown_in(rt, service.addresses) {
         return Err(ServeFault::UnknownHost { desk });
     }
-    match service.making {
+    match service.options.making {
         StoreOrigin::AsNeeded | StoreOrigin::Open => Ok(()),
         StoreOrigin::New => match listen(rt, service, 0) {
             Ok(_) => Ok(()),
@@ -91,9 +91,9 @@ fn make_as_asked(rt: &HostRuntime, service: Service<'_>, home: Home) -> Result<(
     requires { IsHome home }
     ensures { IfErr result (λ f. IsOfOpening f service.entry) }
 {
-    match service.making {
+    match service.options.making {
         StoreOrigin::AsNeeded | StoreOrigin::Open => Ok(()),
-        StoreOrigin::New => match make_file(rt, home, service.store, Unknown) {
+        StoreOrigin::New => match make_file(rt, home, service.options.store, Unknown) {
             Ok(()) => Ok(()),
             Err(fault) => Err(fault_of_open(fault)),
         },
@@ -110,11 +110,11 @@ fn open_as_asked<S: Start>(
 ) -> Result<SqlKeeper<FileStore<FileFrom<S>>>, ServeFault>
     requires { IsHome home }
     ensures opened { IfOk result (KeepsFor ⟦<SqlKeeper<FileStore<FileFrom<S>>> as Keeper>⟧
-        (opening_of service.entry.making) (image_at S.Start) home) }
+        (opening_of service.entry.options.making) (image_at S.Start) home) }
     ensures err { IfErr result (λ f. IsOfOpening f service.entry) }
 {
-    let path = service.store;
-    match service.making {
+    let path = service.options.store;
+    match service.options.making {
         StoreOrigin::AsNeeded => match open_keeper(rt, home, path, start) {
             Ok(keeper) => Ok(keeper),
             Err(fault) => Err(fault_of_open(fault)),
@@ -140,17 +140,14 @@ fn put_file_in_use<S: Start>(
 ) -> Result<u32, ServeFault>
     requires { IsHome home }
     ensures used { IfOk result (IsUsedFor ⟦<FileFrom<S> as Disk>⟧
-        ⟦<SqlKeeper<FileStore<FileFrom<S>>> as Keeper>⟧ (opening_of service.entry.making)
+        ⟦<SqlKeeper<FileStore<FileFrom<S>>> as Keeper>⟧ (opening_of service.entry.options.making)
         (image_at S.Start) home) }
     ensures err { IfErr result (λ f. IsOfOpening f service.entry) }
 {
-    if let Err(fault) = check_use(rt, service.store, Unknown) {
+    if let Err(fault) = check_use(rt, service.options.store, Unknown) {
         return Err(fault_of_open(fault));
     }
-    let keeper = match open_as_asked(rt, service, home, start) {
-        Ok(keeper) => keeper,
-        Err(fault) => return Err(fault),
-    };
+    let keeper = open_as_asked(rt, service, home, start)?;
     match put_in_use(rt, keeper) {
         Ok(start) => Ok(start),
         Err(fault) => Err(fault_of_open(fault)),
@@ -170,7 +167,7 @@ fn first_of<K: Keeper + Drop>(
     service: Service<'_>,
     mut keeper: K,
 ) -> Result<K, ServeFault>
-    requires new { service.making ≡ StoreOrigin.New }
+    requires new { service.options.making ≡ StoreOrigin.New }
     requires settled { K.is_settled keeper }
     ensures first { IfOk result (λ it. (files : Image) (home : Place)
         → KeepsFor K.Keeper StoreOrigin.Open files home keeper
@@ -196,11 +193,11 @@ fn as_asked<K: Keeper + Drop>(
 ) -> Result<K, ServeFault>
     requires settled { K.is_settled keeper }
     ensures kept { IfOk result (λ it. (files : Image) (home : Place)
-        → KeepsFor K.Keeper (opening_of service.entry.making) files home keeper
-        → KeepsFor K.Keeper service.entry.making files home it) }
+        → KeepsFor K.Keeper (opening_of service.entry.options.making) files home keeper
+        → KeepsFor K.Keeper service.entry.options.making files home it) }
     ensures err { IfErr result (λ f. IsOfOpening f service.entry) }
 {
-    match service.making {
+    match service.options.making {
         StoreOrigin::AsNeeded => Ok(keeper),
         StoreOrigin::Open => Ok(keeper),
         StoreOrigin::New => first_of(alloc, service, keeper),
@@ -233,31 +230,19 @@ pub fn open_store<S: Start>(
 ) -> Result<OpenedStore<SqlKeeper<FileStore<FileFrom<S>>>>, ServeFault>
     requires { IsHome home }
     ensures opened { IfOk result (λ it. KeepsFor ⟦<SqlKeeper<FileStore<FileFrom<S>>> as Keeper>⟧
-        service.entry.making (image_at S.Start) home it.keeper) }
+        service.entry.options.making (image_at S.Start) home it.keeper) }
     ensures used { IfOk result (λ it. IsUsedFor ⟦<FileFrom<Unknown> as Disk>⟧
-        ⟦<SqlKeeper<FileStore<FileFrom<Unknown>>> as Keeper>⟧ (opening_of service.entry.making)
-        (image_at ⟦<Unknown as Start>⟧) home it.start) }
+        ⟦<SqlKeeper<FileStore<FileFrom<Unknown>>> as Keeper>⟧
+        (opening_of service.entry.options.making) (image_at ⟦<Unknown as Start>⟧) home it.start) }
     ensures err { IfErr result (λ f. IsOfOpening f service.entry) }
 {
-    if let Err(fault) = may_open(rt, service) {
-        return Err(fault);
-    }
-    if let Err(fault) = make_as_asked(rt, service, home) {
-        return Err(fault);
-    }
-    let number = match put_file_in_use(rt, service, home, Unknown) {
-        Ok(number) => number,
-        Err(fault) => return Err(fault),
-    };
-    let opened = match open_as_asked(rt, service, home, start) {
-        Ok(keeper) => keeper,
-        Err(fault) => return Err(fault),
-    };
-    match as_asked(rt.alloc(), service, opened) {
-        Ok(keeper) => Ok(OpenedStore {
-            keeper,
-            start: number,
-        }),
-        Err(fault) => Err(fault),
-    }
+    may_open(rt, service)?;
+    make_as_asked(rt, service, home)?;
+    let number = put_file_in_use(rt, service, home, Unknown)?;
+    let opened = open_as_asked(rt, service, home, start)?;
+    let keeper = as_asked(rt.alloc(), service, opened)?;
+    Ok(OpenedStore {
+        keeper,
+        start: number,
+    })
 }

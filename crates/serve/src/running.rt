@@ -49,14 +49,14 @@ fn told_end(over: ServingEnd) -> Result<(), ServeFault>
 fn terms_of(service: Service<'_>, doors: Access) -> ServingOptions
     ensures { result ≡ terms_of service.entry doors }
 {
-    let most = match service.connections {
+    let most = match service.options.connections {
         Some(connections) => u64::from(connections),
         None => u64::MAX,
     };
     ServingOptions {
-        wire: service.wire,
+        wire: service.options.wire,
         most,
-        patience: u64::from(service.patience) * 1000 + ROUND,
+        patience: u64::from(service.options.patience) * 1000 + ROUND,
         doors,
     }
 }
@@ -65,9 +65,9 @@ fn terms_of(service: Service<'_>, doors: Access) -> ServingOptions
 /// for, and where the number that is asked for is invalid; the program's arguments refuse such a
 /// number.
 fn period_of(service: Service<'_>) -> Option<Period>
-    ensures { result ≡ period_of service.entry.tick }
+    ensures { result ≡ period_of service.entry.options.tick }
 {
-    match service.tick {
+    match service.options.tick {
         Some(milliseconds) => Period::new(milliseconds),
         None => None,
     }

@@ -1,6 +1,7 @@
 -- A task that asks a desk ends.
 use Rattle.std.proofs.Common.{◌≡◌, ◌⊎◌, Bool, ℕ, List, Option, Result, Ok, Err, IfErr, OnOk, inl}
 use Rattle.std.proofs.Common.{arith, inr, refl}
+use Rattle.std.specs.Io.KnownBytes.{Keeps}
 use Rattle.desk_choice.specs.{Resolving.Resolves, declared.resolving.DeskAddress.DeskAddress}
 use Rattle.arguments.specs.declared.places.Place.{Place}
 use Rattle.batch.specs.Dialing.{Dialed, Told, place_of}
@@ -45,51 +46,14 @@ as_it_ended (Err f) status Did Failed ends did failed = inr (f, ends, failed)
 -- no fault ends with status 0
 pub not_zero : (f : DeskFault) (status : ℕ) → status ≡ status_of f → status ≡ 0 → ⊥
 not_zero (fault.Run run.BadCount) status is zero = omega (arith, is, zero)
-not_zero (fault.Run run.InputTooLong) status is zero = omega (arith, is, zero)
-not_zero (fault.Run (run.BadLine line)) status is zero = omega (arith, is, zero)
-not_zero (fault.Run run.Read) status is zero = omega (arith, is, zero)
-not_zero (fault.Run run.Write) status is zero = omega (arith, is, zero)
-not_zero (fault.Run run.NoMemory) status is zero = omega (arith, is, zero)
-not_zero fault.BadDesk status is zero = omega (arith, is, zero)
-not_zero fault.TextTooLong status is zero = omega (arith, is, zero)
-not_zero (fault.Refused refusal) status is zero = omega (arith, is, zero)
-not_zero fault.CannotConnect status is zero = omega (arith, is, zero)
-not_zero fault.NoAnswer status is zero = omega (arith, is, zero)
-not_zero fault.Late status is zero = omega (arith, is, zero)
-not_zero fault.NoKey status is zero = omega (arith, is, zero)
-not_zero fault.OtherKey status is zero = omega (arith, is, zero)
-not_zero fault.HasKey status is zero = omega (arith, is, zero)
-not_zero (fault.KeyFile key.NotThere) status is zero = omega (arith, is, zero)
-not_zero (fault.KeyFile key.Unreadable) status is zero = omega (arith, is, zero)
-not_zero (fault.KeyFile key.NotFile) status is zero = omega (arith, is, zero)
-not_zero (fault.KeyFile key.Open) status is zero = omega (arith, is, zero)
-not_zero (fault.KeyFile key.Mark) status is zero = omega (arith, is, zero)
-not_zero (fault.KeyFile key.Return) status is zero = omega (arith, is, zero)
-not_zero (fault.KeyFile key.Zeros) status is zero = omega (arith, is, zero)
-not_zero (fault.KeyFile key.NoKey) status is zero = omega (arith, is, zero)
+not_zero (fault.Run _) status is zero = omega (arith, is, zero)
 not_zero (fault.KeyFile key.NoMemory) status is zero = omega (arith, is, zero)
-not_zero fault.KeyThere status is zero = omega (arith, is, zero)
-not_zero fault.SameKeys status is zero = omega (arith, is, zero)
-not_zero fault.NoHallKey status is zero = omega (arith, is, zero)
-not_zero fault.WrongDesk status is zero = omega (arith, is, zero)
-not_zero fault.DamagedStore status is zero = omega (arith, is, zero)
-not_zero fault.StoreDevice status is zero = omega (arith, is, zero)
-not_zero fault.StoreDown status is zero = omega (arith, is, zero)
-not_zero fault.CannotListen status is zero = omega (arith, is, zero)
-not_zero fault.NoMoreIds status is zero = omega (arith, is, zero)
-not_zero fault.StillPending status is zero = omega (arith, is, zero)
-not_zero fault.Lost status is zero = omega (arith, is, zero)
-not_zero fault.NoStore status is zero = omega (arith, is, zero)
-not_zero fault.StoreThere status is zero = omega (arith, is, zero)
-not_zero fault.SameAddresses status is zero = omega (arith, is, zero)
-not_zero (fault.UnknownHost desk) status is zero = omega (arith, is, zero)
-not_zero fault.BadHallFile status is zero = omega (arith, is, zero)
-not_zero fault.NoCommand status is zero = omega (arith, is, zero)
-not_zero fault.AnotherCommand status is zero = omega (arith, is, zero)
-not_zero fault.AtRefusal status is zero = omega (arith, is, zero)
+not_zero (fault.KeyFile _) status is zero = omega (arith, is, zero)
+not_zero fault.CannotConnect status is zero = omega (arith, is, zero)
+not_zero _ status is zero = omega (arith, is, zero)
 
--- where the status is 0, what a fault alone changes is as it was
-pub as_before : (asked : Result (Unit {0}) DeskFault) (status : ℕ) (Same : Type 0)
-    → EndsAs asked status → OnOk asked Same → status ≡ 0 → Same
-as_before (Ok done) status Same ends same zero = same
-as_before (Err f) status Same ends same zero = absurd (not_zero f status ends zero)
+-- where the status is 0, the fault stream is as it was when the desk was found
+pub quiet : (asked : Result (Unit {0}) DeskFault) (status : ℕ) (old mid new : Option (List ℕ))
+    → EndsAs asked status → OnOk asked (new ≡ mid) → Keeps old mid → status ≡ 0 → Keeps old new
+quiet (Ok done) status old mid new ends same kept zero = rw same kept
+quiet (Err f) status old mid new ends same kept zero = absurd (not_zero f status ends zero)

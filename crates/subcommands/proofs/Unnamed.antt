@@ -3,7 +3,6 @@ use Rattle.std.proofs.Common.{◌≡◌, true}
 use Rattle.arguments.specs.declared.{places.Place.Place, task.ClientRequest.ClientRequest}
 use Rattle.subcommands.specs.{Asking.lacks_name, Places.NamesDesk}
 use Rattle.arguments.specs.declared.places.Place.TheVariants as place
-use Rattle.arguments.specs.declared.task.ClientRequest.TheVariants as request
 
 -- the arguments name none
 pub names_none : (p : Place) (r : ClientRequest) → lacks_name p r ≡ true → NamesDesk p → ⊥

@@ -9,6 +9,7 @@ use Rattle.batch.specs.declared.fault.BatchFault.{BatchFault}
 use Rattle.client.specs.Standings.{status_request}
 use Rattle.desk_requests.specs.declared.polling.Inquiry.{Inquiry}
 use Rattle.hall_file.specs.declared.hall_file.HallFile.{HallFile}
+use Rattle.hall_file.specs.declared.service.StoreOrigin.TheVariants.{New}
 use Rattle.wire.specs.{Spelling.lengths_of, declared.frame.FrameBody.FrameBody}
 use Rattle.subcommands.specs.{Standings.Asks, declared.begun.KnownDesks.KnownDesks}
 use Rattle.wire.specs.declared.frame.FrameBody.TheVariants as what
@@ -62,8 +63,8 @@ abbrev pub HasAsked : Bor (List ℕ) → HallService → HallFile → List (List
     → (old new : Option (List Dialed)) → Type 0
 HasAsked file wanted hall texts may old new =
     (q : Inquiry) × (key : Option (List ℕ))
-    × IsKeyOf (key_file_of (naming file wanted.key) hall) key × Asks q hall.hall texts key 2
-    × (k : KnownDesks) × AsksEach q wanted.desk 1 q.addresses.now k old new
+    × IsKeyOf (key_file_of (naming file wanted.options.key) hall) key × Asks q hall.hall texts key 2
+    × (k : KnownDesks) × AsksEach q wanted.options.desk 1 q.addresses.now k old new
     × (IsTrue may ↔ MayBegin wanted.new_hall k)
 
 -- Whether the desk that is wanted may serve: where its store is to be made the others may have been
@@ -72,6 +73,6 @@ HasAsked file wanted hall texts may old new =
 abbrev pub AsksFirst : Bor (List ℕ) → HallService → HallFile → List (List ℕ) → Bool
     → (old new : Option (List Dialed)) → Type 0
 AsksFirst file wanted hall texts true old new =
-    (old ≡ new) ⊎ (IsTrue wanted.makes × HasAsked file wanted hall texts true old new)
+    (old ≡ new) ⊎ ((wanted.options.making ≡ New) × HasAsked file wanted hall texts true old new)
 AsksFirst file wanted hall texts false old new =
-    IsTrue wanted.makes × HasAsked file wanted hall texts false old new
+    (wanted.options.making ≡ New) × HasAsked file wanted hall texts false old new

@@ -2,12 +2,11 @@
 
 ghost use Rattle.std.specs.Prelude.{◌≡◌, IfErr, IfOk, map, option_map, string_bytes};
 ghost use Rattle.desk_choice.specs.Seeking.{no_memory};
-ghost use Rattle.subcommands.specs.Services.{IsBeside, IsEntryKeyFile, IsServiceOf, making_of};
+ghost use Rattle.subcommands.specs.Services.{IsBeside, IsEntryKeyFile, IsServiceOf};
 
-use arguments::HallService;
 use desk_requests::DeskFault;
 use hall_file::key_path;
-use hall_file::service::{Service, StoreOrigin};
+use hall_file::service::{ServeOptions, Service};
 use lines::RunFault;
 use std::alloc::AllocError;
 use std::fs;
@@ -65,7 +64,7 @@ fn key_file_of(
 pub fn entry_key_file(
     rt: &HostRuntime,
     file: &str,
-    wanted: HallService<'_>,
+    wanted: ServeOptions<'_>,
     has_key: bool,
 ) -> Result<Option<String>, DeskFault>
     ensures ok { IfOk result (λ path.
@@ -79,22 +78,11 @@ pub fn entry_key_file(
     }
 }
 
-/// Whether the store is made, or has to be there.
-fn making_of(makes: bool) -> StoreOrigin
-    ensures { result ≡ making_of makes }
-{
-    if makes {
-        StoreOrigin::New
-    } else {
-        StoreOrigin::Open
-    }
-}
-
 /// What is asked of the desk that is wanted, of a hall with this number, whose desks have the key
 /// of this file, or none, and the entry key of this one, or none, and listen at these addresses.
 pub fn service_of<'a>(
     hall: u32,
-    wanted: HallService<'a>,
+    wanted: ServeOptions<'a>,
     key: Option<&'a str>,
     entry_key: Option<&'a str>,
     addresses: &'a [&'a str],
@@ -104,18 +92,11 @@ pub fn service_of<'a>(
 {
     Service {
         hall,
-        desk: wanted.desk,
-        store: wanted.store,
-        making: making_of(wanted.makes),
-        patience: wanted.patience,
-        connections: wanted.connections,
-        wire: wanted.wire,
-        tick: wanted.tick,
-        quiet: wanted.quiet,
-        key,
-        entry_key,
-        old_key: wanted.old_key,
-        open_sheets: wanted.open_sheets,
         addresses,
+        options: ServeOptions {
+            key,
+            entry_key,
+            ..wanted
+        },
     }
 }

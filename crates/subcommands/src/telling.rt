@@ -89,13 +89,13 @@ pub fn tell_service<F: Write>(
     ensures { result ≡ status_of fault }
 {
     let status = tell_serving(faults, fault, service);
-    let place = usize::from(service.desk).saturating_sub(1);
+    let place = usize::from(service.options.desk).saturating_sub(1);
     let address = match service.addresses.get(place) {
         Some(text) => text,
         None => "",
     };
     if is_wanted(rt, explains) {
-        let store = service.store;
+        let store = service.options.store;
         let _ = explain(rt, faults, fault, FaultSubject::Serving { store, address });
     }
     status

@@ -1,8 +1,14 @@
-use Rattle.std.proofs.{Common.ap, Common.map, Common.refl, Common.Some, lemmas.Result.IfOk-weaker}
+use Rattle.std.proofs.Common.{◌≡◌, ap, Bor, List, map, refl, Some}
+use Rattle.std.proofs.lemmas.Result.{IfOk-weaker}
+use Rattle.clap.specs.Words.{Text}
 use Rattle.replay_arguments.proofs.Building.{added, added_last}
-use Rattle.arguments.specs.Tables.{described_app, with_arguments}
+use Rattle.arguments.specs.{Arguments.IsOneOf, Tables.described_app, Tables.with_arguments}
 use Rattle.clap.specs.declared.builder.value_parser.ValueParser.TheVariants as parser
 use Rattle.arguments.proofs.import.import_command.Goals as goal
+
+is_one : (names : Bor (List (Bor Text))) (texts : List Text)
+    → map (λ name. name.now) names.now ≡ texts → IsOneOf (Some (parser.Names names)) texts
+is_one names texts are = record { names = names; parsed = refl; are = are }
 
 pub returns : goal.returns
 unfolding described_app with_arguments
@@ -19,21 +25,9 @@ returns c =
         edition = Some (parser.Names c.as_slice.result);
         limits = Some (parser.Names c.as_slice-2.result);
         names = Some (parser.Names c.as_slice-3.result);
-        begun = record {
-          names = c.as_slice.result;
-          parsed = refl;
-          are = ap (λ texts. map (λ name. name.now) texts) c.as_slice.ensures;
-        };
-        limited = record {
-          names = c.as_slice-2.result;
-          parsed = refl;
-          are = ap (λ texts. map (λ name. name.now) texts) c.as_slice-2.ensures;
-        };
-        named = record {
-          names = c.as_slice-3.result;
-          parsed = refl;
-          are = ap (λ texts. map (λ name. name.now) texts) c.as_slice-3.ensures;
-        };
+        begun = is_one _ _ (ap (map (λ (t : Bor Text). t.now)) c.as_slice.ensures);
+        limited = is_one _ _ (ap (map (λ (t : Bor Text). t.now)) c.as_slice-2.ensures);
+        named = is_one _ _ (ap (map (λ (t : Bor Text). t.now)) c.as_slice-3.ensures);
       },
       made,
     )) (added_last c.with_argument-3.result c.in_ok-command-3.command _ c.way-names.result _ two

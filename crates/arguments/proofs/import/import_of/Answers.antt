@@ -6,8 +6,8 @@ returns c = (
   refl,
   record {
     file = c.in_ok-file.ensures;
-    edition = c.edition_at.ensures;
-    limits = c.limits_at.ensures;
-    names = c.names_at.ensures;
+    edition = c.chosen.ensures;
+    limits = c.chosen-2.ensures;
+    names = c.chosen-3.ensures;
   },
 )

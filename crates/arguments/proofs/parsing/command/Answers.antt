@@ -1,8 +1,8 @@
-use Rattle.std.proofs.Common.{◌∙◌, ap, codes}
-use Rattle.std.proofs.lemmas.Result.{IfOk-weaker}
+use Rattle.std.proofs.{Common.◌∙◌, Common.ap, Common.codes, lemmas.Result.IfOk-weaker}
 use Rattle.replay_arguments.proofs.Building.{subbed}
-use Rattle.arguments.specs.{Arguments.errand_arguments, Asking.status_arguments}
-use Rattle.arguments.specs.Asking.{ask_arguments, enter_arguments, lines_arguments, log_arguments}
+use Rattle.arguments.specs.{Arguments.errand_arguments, Asking.ask_arguments, Asking.enter_arguments}
+use Rattle.arguments.specs.{Asking.lines_arguments, Asking.log_arguments, Asking.status_arguments}
+use Rattle.arguments.specs.Tables.{described_app, with_arguments}
 use Rattle.arguments.proofs.Tables.{on}
 use Rattle.arguments.proofs.parsing.command.Goals as goal
 
@@ -10,6 +10,7 @@ pub with_subcommand-requires : goal.with_subcommand-requires
 with_subcommand-requires c = c.in_ok-sheet.ensures.1.1
 
 pub returns : goal.returns
+unfolding described_app with_arguments
 returns c =
     let half = c.in_ok-command.ensures in
     let sheet = c.in_ok-sheet.ensures in
@@ -20,7 +21,7 @@ returns c =
     let five = c.in_ok-command-6.ensures ∙ ap (on ask_arguments) four in
     let six = subbed _ _ _ _ _ five sheet.1.0 c.in_ok-command-7.ensures in
     let seven = c.in_ok-command-8.ensures ∙ ap (on (errand_arguments (codes "tick"))) six in
-    IfOk-weaker c.with_stop.result _ _ (λ command made. (
+    IfOk-weaker c.with_described-7.result _ _ (λ command made. (
       record { replay = half.0; sheet = sheet.0; imported = half.1 },
       made ∙ ap (on (errand_arguments (codes "stop"))) seven,
-    )) c.with_stop.ensures
+    )) c.with_described-7.ensures

@@ -1,8 +1,8 @@
-use Rattle.std.proofs.Common.{◌∙◌, ap}
-use Rattle.std.proofs.lemmas.Result.{IfOk-weaker}
+use Rattle.std.proofs.{Common.◌∙◌, Common.ap, lemmas.Result.IfOk-weaker}
 use Rattle.replay_arguments.proofs.Building.{subbed}
 use Rattle.arguments.specs.Asking.{export_arguments, hall_arguments, hall_file_arguments}
 use Rattle.arguments.specs.Asking.{key_arguments, results_arguments, serve_arguments}
+use Rattle.arguments.specs.Tables.{described_app, with_arguments}
 use Rattle.arguments.proofs.Tables.{on}
 use Rattle.arguments.proofs.parsing.first_half.Goals as goal
 
@@ -13,6 +13,7 @@ pub with_subcommand-requires-2 : goal.with_subcommand-requires-2
 with_subcommand-requires-2 c = c.in_ok-import.ensures.1.1
 
 pub returns : goal.returns
+unfolding described_app with_arguments
 returns c =
     let replay = c.in_ok-replay.ensures in
     let imported = c.in_ok-import.ensures in
@@ -23,6 +24,6 @@ returns c =
     let five = c.in_ok-command-5.ensures ∙ ap (on hall_arguments) four in
     let six = c.in_ok-command-6.ensures ∙ ap (on hall_file_arguments) five in
     let seven = c.in_ok-command-7.ensures ∙ ap (on key_arguments) six in
-    IfOk-weaker c.with_serve.result _ _
+    IfOk-weaker c.with_described-6.result _ _
     (λ command made. (replay.0, imported.0, made ∙ ap (on serve_arguments) seven))
-    c.with_serve.ensures
+    c.with_described-6.ensures

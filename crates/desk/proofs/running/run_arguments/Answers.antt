@@ -1,7 +1,6 @@
-use Rattle.std.proofs.Common.{[], inl, inr, subst, Option, List}
+use Rattle.std.proofs.Common.{[], inl, inr}
 use Rattle.std.proofs.KnownBytes.{Appends-nil, Keeps-refl}
-use Rattle.clap.specs.Words.{Row, Text}
-use Rattle.arguments.{specs.Asking.Finds, proofs.Found.found_ids}
+use Rattle.arguments.proofs.Found.{found_ids}
 use Rattle.desk.proofs.Few.{found_few}
 use Rattle.desk.proofs.running.run_arguments.Goals as goal
 
@@ -19,9 +18,8 @@ run_task-requires-clause-few g c = found_few _ c.in-Some.asked.task c.in-Some.en
 
 pub returns : goal.returns
 returns g c =
-    let finds : Option (Text × List Row) → Type 0 = λ found. Finds found c.in-Some.asked.task in
     inl (
       c.in-Some.asked.task,
-      (c.in-Ok.ensures.0, subst finds c.in-Ok.ensures.1 c.in-Some.ensures.task),
+      (c.in-Ok.ensures.0, rw c.in-Ok.ensures.1 at c.in-Some.ensures.task),
       c.run_task.ensures,
     )

@@ -1,10 +1,10 @@
 use Rattle.std.proofs.Common.{◌≡◌, inl, ℕ, ◌/◌, ◌^◌, ◌≤◌, List, length, ◌<◌, ◌∙◌, ap, subst, arith}
-use Rattle.std.proofs.{Common.slice_index, Common.refl, Common.sym, lemmas.Result.on_ok_weaker}
+use Rattle.std.proofs.{Common.slice_index, Common.sym, lemmas.Result.on_ok_weaker}
 use Rattle.sqlite_disk.specs.Disk.{Holds, Torn}
 use Rattle.sqlite_wal.specs.Format.{IsSigned, be32, part}
 use Rattle.sqlite_wal.proofs.{FormatLemmas.be32-part, PartLemmas.slice_index-part}
 use Rattle.desk_file.specs.Marks.{IsLog, IsOfUse, IsShut}
-use Rattle.desk_file.proofs.Marking.{byte_read, first_of, header_read, is_log, number_read}
+use Rattle.desk_file.proofs.Marking.{first_of, front_read, is_log}
 use Rattle.desk_file.proofs.mark.begin_log.Goals as goal
 
 -- the log that was begun
@@ -14,21 +14,14 @@ begun : (n : ℕ) (old log front salt : List ℕ) (k : ℕ) → 0x100_0000 ≤ n
     → slice_index front 40 ≡ 0 → IsSigned (part front 0 32) → IsLog n log
 begun n old log front salt k big fits long torn holds len round is named first gate signed =
     let longer = torn.no_shorter in
-    let r : be32 front 12 ≡ be32 log 12 = number_read log front 12 holds (omega arith) in
-    let s : be32 front 16 ≡ be32 log 16 = number_read log front 16 holds (omega arith) in
-    let b : slice_index front 16 ≡ slice_index log 16 = byte_read log front 16 holds (omega arith)
-    in
-    let e : slice_index front 40 ≡ slice_index log 40 = byte_read log front 40 holds (omega arith)
-    in
+    let f = front_read log front holds len in
     let salted : be32 front 16 ≡ n = sym (be32-part front 16 8 0 (omega arith))
     ∙ ap (λ (l : List ℕ). be32 l 0) is ∙ named in
     let begins : slice_index front 16 ≡ n / 0x100_0000 = sym (slice_index-part front 16 8 0 (omega
     arith)) ∙ ap (λ (l : List ℕ). slice_index l 0) is ∙ first in
     let of_use : IsOfUse n log = (omega arith, omega arith) in
-    let shut : IsShut log = λ same. first_of n big (sym begins ∙ b ∙ sym same ∙ sym e ∙ gate) in
-    is_log n log of_use (omega arith)
-    (subst IsSigned (header_read log front (part front 0 32) holds (omega arith) refl) signed)
-    (inl shut)
+    let shut : IsShut log = λ same. first_of n big (sym begins ∙ f.first ∙ sym same ∙ sym f.gate ∙ gate) in
+    is_log n log of_use (omega arith) (subst IsSigned f.head signed) (inl shut)
 
 pub returns-clause-begun : goal.returns-clause-begun
 returns-clause-begun g c =

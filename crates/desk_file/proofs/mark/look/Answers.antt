@@ -1,8 +1,7 @@
-use Rattle.std.proofs.Common.{◌≡◌, ◌≢◌, ◌+◌, ◌≤◌, ap, slice_index, sym, ◌∙◌, arith, rules}
+use Rattle.std.proofs.Common.{◌≡◌, ◌≢◌, ◌≤◌, slice_index, sym, ◌∙◌, arith, rules}
 use Rattle.std.proofs.lemmas.Bool.{false≢true}
 use Rattle.sqlite_disk.specs.Disk.{Holds}
-use Rattle.sqlite_wal.proofs.PartLemmas.{same_be32}
-use Rattle.desk_file.{specs.Marks.IsMarked, specs.Marks.number_of, proofs.Marking.stands_by}
+use Rattle.desk_file.{specs.Marks.IsMarked, proofs.Marking.field_read, proofs.Marking.stands_by}
 use Rattle.desk_file.proofs.mark.look.Goals as goal
 
 pub returns-then-branch-lt-USE_END-clause-ok : goal.returns-then-branch-lt-USE_END-clause-ok
@@ -19,9 +18,7 @@ returns-then-field-ne0-clause-ok g c log_clean clean =
     let holds : Holds db 60 c.read_at.new.buf =
     rw (← c.len.ensures.seen) (c.in_ok-read_at.ensures.read clean (omega arith)) in
     let is = c.in_ok-len.ensures.len (search rules) in
-    let number : c.get_be32-number.result ≡ number_of db =
-    c.get_be32-number.ensures ∙ same_be32 c.read_at.new.buf db 0 60 (λ i low. let at : 0 + i ≡ i =
-    omega arith in ap (slice_index c.read_at.new.buf) at ∙ sym (holds.each i (omega arith))) in
+    let number = c.get_be32-number.ensures ∙ field_read db c.read_at.new.buf holds (omega arith) in
     let len = c.in_ok-size.ensures.len (c.front_of.ensures.same.clean log_clean) in
     let front : 41 ≤ c.in_ok-size.size → Holds log 0 c.in_ok-front.front =
     λ long. rw (← c.len-2.ensures.seen) (c.in_ok-front.ensures.bytes log_clean long) in
@@ -37,9 +34,7 @@ returns-then-number-eq0-clause-ok g c log_clean clean =
     let holds : Holds db 60 c.read_at.new.buf =
     rw (← c.len.ensures.seen) (c.in_ok-read_at.ensures.read clean (omega arith)) in
     let is = c.in_ok-len.ensures.len (search rules) in
-    let number : c.get_be32-number.result ≡ number_of db =
-    c.get_be32-number.ensures ∙ same_be32 c.read_at.new.buf db 0 60 (λ i low. let at : 0 + i ≡ i =
-    omega arith in ap (slice_index c.read_at.new.buf) at ∙ sym (holds.each i (omega arith))) in
+    let number = c.get_be32-number.ensures ∙ field_read db c.read_at.new.buf holds (omega arith) in
     let zero : slice_index db 60 ≡ 0 = holds.each 0 (omega arith) ∙ c.if-field-ne0.false in (
       λ marked. marked.1 zero,
       λ strange. strange.2 (sym number ∙ c.if-number-eq0.true),
@@ -52,9 +47,7 @@ returns-then-has_frame-clause-ok g c log_clean clean =
     let holds : Holds db 60 c.read_at.new.buf =
     rw (← c.len.ensures.seen) (c.in_ok-read_at.ensures.read clean (omega arith)) in
     let is = c.in_ok-len.ensures.len (search rules) in
-    let number : c.get_be32-number.result ≡ number_of db =
-    c.get_be32-number.ensures ∙ same_be32 c.read_at.new.buf db 0 60 (λ i low. let at : 0 + i ≡ i =
-    omega arith in ap (slice_index c.read_at.new.buf) at ∙ sym (holds.each i (omega arith))) in
+    let number = c.get_be32-number.ensures ∙ field_read db c.read_at.new.buf holds (omega arith) in
     let len = c.in_ok-size.ensures.len (c.front_of.ensures.same.clean log_clean) in
     let front : 41 ≤ c.in_ok-size.size → Holds log 0 c.in_ok-front.front =
     λ long. rw (← c.len-2.ensures.seen) (c.in_ok-front.ensures.bytes log_clean long) in
@@ -72,9 +65,7 @@ returns-clause-ok g c log_clean clean =
     let holds : Holds db 60 c.read_at.new.buf =
     rw (← c.len.ensures.seen) (c.in_ok-read_at.ensures.read clean (omega arith)) in
     let is = c.in_ok-len.ensures.len (search rules) in
-    let number : c.get_be32-number.result ≡ number_of db =
-    c.get_be32-number.ensures ∙ same_be32 c.read_at.new.buf db 0 60 (λ i low. let at : 0 + i ≡ i =
-    omega arith in ap (slice_index c.read_at.new.buf) at ∙ sym (holds.each i (omega arith))) in
+    let number = c.get_be32-number.ensures ∙ field_read db c.read_at.new.buf holds (omega arith) in
     let len = c.in_ok-size.ensures.len (c.front_of.ensures.same.clean log_clean) in
     let front : 41 ≤ c.in_ok-size.size → Holds log 0 c.in_ok-front.front =
     λ long. rw (← c.len-2.ensures.seen) (c.in_ok-front.ensures.bytes log_clean long) in

@@ -1,7 +1,6 @@
-use Rattle.std.proofs.Common.{◌≡◌, ◌+◌, ◌%◌, ◌<◌, ap, slice_index, sym, subst, ◌∙◌, arith}
+use Rattle.std.proofs.Common.{◌%◌, ◌<◌, ap, sym, subst, ◌∙◌, arith}
 use Rattle.sqlite_disk.specs.Disk.{Holds}
-use Rattle.sqlite_wal.{specs.Format.be32, proofs.PartLemmas.same_be32}
-use Rattle.desk_file.specs.Marks.{number_of}
+use Rattle.desk_file.proofs.Marking.{field_read}
 use Rattle.desk_file.proofs.mark.uses_of.Goals as goal
 
 pub returns-clause-ok : goal.returns-clause-ok
@@ -9,10 +8,8 @@ returns-clause-ok g c clean long =
     let db = g.D.Disk.seen c.args.db.now in
     let holds : Holds db 60 c.read_at.new.buf =
     c.in_ok-read_at.ensures.read clean (omega arith) in
-    let number : be32 c.read_at.new.buf 0 ≡ number_of db =
-    same_be32 c.read_at.new.buf db 0 60 (λ i low. let at : 0 + i ≡ i =
-    omega arith in ap (slice_index c.read_at.new.buf) at ∙ sym (holds.each i (omega arith))) in
-    c.count_in.ensures.count ∙ ap (λ n. n % 0x100_0000) number
+    c.count_in.ensures.count
+    ∙ ap (λ n. n % 0x100_0000) (field_read db c.read_at.new.buf holds (omega arith))
 
 pub returns-clause-bytes : goal.returns-clause-bytes
 returns-clause-bytes g c clean long =

@@ -1,33 +1,20 @@
-use Rattle.std.proofs.Common.{inl, inr, subst}
-use Rattle.desk_file.specs.{Marks.Stands, declared.mark.FilesState.FilesState}
+use Rattle.std.proofs.Common.{inl, inr}
 use Rattle.desk_file.proofs.uses.judge.Goals as goal
 
 pub returns-in-Free-clause-ok : goal.returns-in-Free-clause-ok
-returns-in-Free-clause-ok g c log db =
-    let stands = λ (s : FilesState). Stands s (g.D.Disk.seen c.args.files.now.log)
-    (g.D.Disk.seen c.args.files.now.db) in
-    inl (subst stands c.in-Free.is (c.in-Ok.ensures.ok log db))
+returns-in-Free-clause-ok g c log db = inl (rw c.in-Free.is at (c.in-Ok.ensures.ok log db))
 
 pub returns-in-InUse-clause-ok : goal.returns-in-InUse-clause-ok
-returns-in-InUse-clause-ok g c log db =
-    let stands = λ (s : FilesState). Stands s (g.D.Disk.seen c.args.files.now.log)
-    (g.D.Disk.seen c.args.files.now.db) in
-    inr (inl (subst stands c.in-InUse.is (c.in-Ok.ensures.ok log db)))
+returns-in-InUse-clause-ok g c log db = inr (inl (rw c.in-InUse.is at (c.in-Ok.ensures.ok log db)))
 
 pub returns-in-Emptied-clause-ok : goal.returns-in-Emptied-clause-ok
 returns-in-Emptied-clause-ok g c log db =
-    let stands = λ (s : FilesState). Stands s (g.D.Disk.seen c.args.files.now.log)
-    (g.D.Disk.seen c.args.files.now.db) in
-    inr (inr (subst stands c.in-Emptied.is (c.in-Ok.ensures.ok log db)))
+    inr (inr (rw c.in-Emptied.is at (c.in-Ok.ensures.ok log db)))
 
 pub returns-in-LogLost-clause-damaged : goal.returns-in-LogLost-clause-damaged
 returns-in-LogLost-clause-damaged g c is log db =
-    let stands = λ (s : FilesState). Stands s (g.D.Disk.seen c.args.files.now.log)
-    (g.D.Disk.seen c.args.files.now.db) in
-    inl (subst stands c.in-LogLost.is (c.in-Ok.ensures.ok log db))
+    inl (rw c.in-LogLost.is at (c.in-Ok.ensures.ok log db))
 
 pub returns-in-StrangeLog-clause-damaged : goal.returns-in-StrangeLog-clause-damaged
 returns-in-StrangeLog-clause-damaged g c is log db =
-    let stands = λ (s : FilesState). Stands s (g.D.Disk.seen c.args.files.now.log)
-    (g.D.Disk.seen c.args.files.now.db) in
-    inr (subst stands c.in-StrangeLog.is (c.in-Ok.ensures.ok log db))
+    inr (rw c.in-StrangeLog.is at (c.in-Ok.ensures.ok log db))

@@ -1,19 +1,18 @@
-use Rattle.std.proofs.Common.{◌∷◌, []}
-use Rattle.batch.specs.Dialing.{place_of}
-use Rattle.desk_requests.specs.declared.polling.Question.TheVariants as asking
-use Rattle.desk_requests.proofs.Polled.{asked_again, asked_once}
+use Rattle.std.proofs.Common.{inl, inr, refl}
 use Rattle.desk_requests.proofs.polling.ask_at.Goals as goal
 
 pub returns-then-is_unanswered : goal.returns-then-is_unanswered
-returns-then-is_unanswered g c =
-    asked_again (place_of c.args.contact) asking.Fully asking.Standing (asking.Id ∷ [])
-    c.args.hall c.args.desk c.tried-desks.result _ _ _ c.ask_each-first.result c.ask_earlier.result
-    c.tried-desks.ensures.order c.ask_each-first.ensures
-    (c.is_unanswered.ensures.yes c.if-is_unanswered.true) c.ask_earlier.ensures
+returns-then-is_unanswered g c = (
+  c.ask_each-first.result,
+  g.D.Dial.dialed c.ask_each-first.new.dial,
+  rw c.tried-desks.ensures.order at c.ask_each-first.ensures,
+  inl (c.is_unanswered.ensures.yes c.if-is_unanswered.true, c.ask_earlier.ensures),
+)
 
 pub returns : goal.returns
-returns g c =
-    asked_once (place_of c.args.contact) asking.Fully asking.Standing (asking.Id ∷ [])
-    c.args.hall c.args.desk c.tried-desks.result _ _ c.ask_each-first.result
-    c.tried-desks.ensures.order c.ask_each-first.ensures
-    (c.is_unanswered.ensures.no c.if-is_unanswered.false)
+returns g c = (
+  c.ask_each-first.result,
+  g.D.Dial.dialed c.ask_each-first.new.dial,
+  rw c.tried-desks.ensures.order at c.ask_each-first.ensures,
+  inr (c.is_unanswered.ensures.no c.if-is_unanswered.false, refl, refl),
+)

@@ -1,20 +1,23 @@
-use Rattle.desk_requests.{specs.Polling.outside, proofs.Polled.reports, proofs.Polled.unwritten}
+use Rattle.std.proofs.Common.{◌∙◌, ap, inr, refl}
+use Rattle.standings.specs.Standings.{status_of}
 use Rattle.desk_requests.proofs.polling.print_standings.Goals as goal
 
 pub returns-in-Ok-write_text-clause-ok : goal.returns-in-Ok-write_text-clause-ok
-returns-in-Ok-write_text-clause-ok g c =
-    reports c.args.form c.args.inquiry c.in-Ok.polled.items c.deref.result.now c.deref-2.result.now
-    c.in-Ok-report.text.items c.deref-3.result.now c.status_of-status.result
-    (outside g.D.Dial.dialed g.W.Write.contents c.args.dial.now c.polled_of.new.dial
-    c.args.writer.now c.write_text.new.writer)
-    c.in-Ok.ensures.all c.deref.ensures.value c.deref-2.ensures.value c.in-Ok-report.ensures
-    c.deref-3.ensures.value c.status_of-status.ensures c.in-Ok-write_text.ensures.ok
+returns-in-Ok-write_text-clause-ok g c = record {
+  polled = c.in-Ok.polled.items;
+  asked = c.in-Ok.ensures.all;
+  written =
+      rw (c.deref-3.ensures.value, c.in-Ok-report.ensures, c.deref.ensures.value)
+      at c.in-Ok-write_text.ensures.ok;
+  status_is = c.status_of-status.ensures ∙ ap status_of c.deref-2.ensures.value;
+}
 
 pub returns-clause-err : goal.returns-clause-err
 returns-clause-err g c =
-    unwritten c.args.form c.args.inquiry c.in-Ok.polled.items c.deref.result.now
-    c.in-Ok-report.text.items c.deref-3.result.now
-    (outside g.D.Dial.dialed g.W.Write.contents c.args.dial.now c.polled_of.new.dial
-    c.args.writer.now c.write_text.new.writer)
-    c.in-Ok.ensures.all c.deref.ensures.value c.in-Ok-report.ensures c.deref-3.ensures.value
-    c.in-Err.ensures.err
+    inr (
+      refl,
+      c.in-Ok.polled.items,
+      c.in-Ok.ensures.all,
+      rw (c.deref-3.ensures.value, c.in-Ok-report.ensures, c.deref.ensures.value)
+          at c.in-Err.ensures.err,
+    )

@@ -1,8 +1,6 @@
-use Rattle.std.proofs.Common.{false, subst, sym, ◌≡◌}
-use Rattle.std.specs.Io.KnownBytes.{Keeps}
-use Rattle.desk_requests.specs.declared.logs.LogForm.{LogForm}
-use Rattle.subcommands.specs.{Asking.EndsCopy, Asking.EndsCopyLog, Places.reach}
-use Rattle.subcommands.proofs.Ending.{as_before, as_it_ended, done}
+use Rattle.std.{proofs.Common.false, specs.Io.KnownBytes.Keeps}
+use Rattle.subcommands.specs.{Asking.EndsCopy, Places.reach}
+use Rattle.subcommands.proofs.Ending.{as_it_ended, done, quiet}
 use Rattle.subcommands.proofs.asking.copy_log_at.Goals as goal
 
 pub returns-clause-ends : goal.returns-clause-ends
@@ -14,8 +12,7 @@ returns-clause-ends g c =
     c.args.faults.now in
     let form = c.log_form-form.result in
     let status = c.tell_asked.result in
-    subst (λ (f : LogForm). EndsCopyLog c.args.place c.args.patience c.args.from f status r old new)
-    c.log_form-form.ensures (done c.args.place c.args.patience status r
+    rw (← c.log_form-form.ensures) (done c.args.place c.args.patience status r
     (Keeps old new) (λ one _ t. EndsCopy status one form c.args.from t old new)
     c.in-Ok.found c.contact_of-contact.result
     (g.D.Dial.dialed c.found_at.new.dial) (g.F.Write.contents c.found_at.new.faults) false
@@ -25,8 +22,5 @@ returns-clause-ends g c =
 
 pub returns-clause-quiet : goal.returns-clause-quiet
 returns-clause-quiet g c = λ zero named.
-    let same : g.F.Write.contents c.tell_asked.new.faults
-    ≡ g.F.Write.contents c.found_at.new.faults =
-    as_before c.print_log-asked.result c.tell_asked.result _ c.tell_asked.ensures.ends
-    c.tell_asked.ensures.quiet zero in
-    subst (Keeps (g.F.Write.contents c.args.faults.now)) (sym same) (c.in-Ok.ensures.quiet named)
+    quiet c.print_log-asked.result c.tell_asked.result _ _ _ c.tell_asked.ensures.ends
+    c.tell_asked.ensures.quiet (c.in-Ok.ensures.quiet named) zero

@@ -1,7 +1,6 @@
-use Rattle.std.proofs.Common.{false, subst, sym, ◌≡◌}
-use Rattle.std.specs.Io.KnownBytes.{Keeps}
+use Rattle.std.{proofs.Common.false, specs.Io.KnownBytes.Keeps}
 use Rattle.subcommands.specs.{Asking.EndsSheet, Places.reach}
-use Rattle.subcommands.proofs.Ending.{as_before, as_it_ended, done}
+use Rattle.subcommands.proofs.Ending.{as_it_ended, done, quiet}
 use Rattle.subcommands.proofs.asking.newest_at.Goals as goal
 
 pub returns-clause-ends : goal.returns-clause-ends
@@ -20,8 +19,5 @@ returns-clause-ends g c =
 
 pub returns-clause-quiet : goal.returns-clause-quiet
 returns-clause-quiet g c = λ zero named.
-    let same : g.F.Write.contents c.tell_asked.new.faults
-    ≡ g.F.Write.contents c.found_at.new.faults =
-    as_before c.print_newest-asked.result c.tell_asked.result _ c.tell_asked.ensures.ends
-    c.tell_asked.ensures.quiet zero in
-    subst (Keeps (g.F.Write.contents c.args.faults.now)) (sym same) (c.in-Ok.ensures.quiet named)
+    quiet c.print_newest-asked.result c.tell_asked.result _ _ _ c.tell_asked.ensures.ends
+    c.tell_asked.ensures.quiet (c.in-Ok.ensures.quiet named) zero

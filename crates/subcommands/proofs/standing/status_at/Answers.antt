@@ -1,23 +1,14 @@
-use Rattle.std.proofs.Common.{◌∙◌, Bor, List, ℕ, ap, inl, inr, map, refl, subst, sym}
+use Rattle.std.proofs.Common.{◌∙◌, Bor, List, ℕ, ap, inl, inr, map, refl}
 use Rattle.std.proofs.KnownBytes.{Keeps-refl}
-use Rattle.arguments.specs.declared.places.DeskPlaces.{DeskPlaces}
-use Rattle.desk_requests.specs.Polling.{outside}
 use Rattle.desk_requests.specs.declared.fault.DeskFault.TheVariants as fault
 use Rattle.lines.specs.declared.fault.RunFault.TheVariants as run
-use Rattle.subcommands.specs.Standings.{EndsStatus}
 use Rattle.subcommands.proofs.standing.status_at.Goals as goal
 
 pub returns-in-Err-key_of_hall : goal.returns-in-Err-key_of_hall
 returns-in-Err-key_of_hall g c =
-    let dial = c.args.dial.now in
-    let writer = c.args.writer.now in
-    let o = outside g.D.Dial.dialed g.W.Write.contents dial dial writer writer in
-    let told = c.tell-in-Err-key_of_hall in
-    subst (λ (d : DeskPlaces).
-    EndsStatus d c.args.patience c.args.way.form c.args.way.watches c.args.way.all told.result o)
-    (sym c.in-File.is) (inl (
+    rw c.in-File.is (inl (
       c.in-Err-key_of_hall.fault,
-      told.ensures,
+      c.tell-in-Err-key_of_hall.ensures,
       inr (
         c.in-Ok-hall_of_file.hall,
         c.in-Ok-hall_of_file.ensures.ok.0,
@@ -30,24 +21,13 @@ returns-in-Err-key_of_hall g c =
 
 pub returns-in_default : goal.returns-in_default
 returns-in_default g c =
-    let dial = c.args.dial.now in
-    let writer = c.args.writer.now in
-    let o = outside g.D.Dial.dialed g.W.Write.contents dial dial writer writer in
-    subst (λ (d : DeskPlaces).
-    EndsStatus d c.args.patience c.args.way.form c.args.way.watches c.args.way.all
-    c.tell-in_default.result o) (sym c.in-File.is)
+    rw c.in-File.is
     (inl (fault.Run run.NoMemory, c.tell-in_default.ensures, inl (inr refl), refl, Keeps-refl _))
 
 pub returns-in-Ok-addresses_of : goal.returns-in-Ok-addresses_of
 returns-in-Ok-addresses_of g c =
-    let asked = c.inquire-in-File in
-    let o =
-    outside g.D.Dial.dialed g.W.Write.contents c.args.dial.now asked.new.dial c.args.writer.now
-    asked.new.writer in
     let texts = ap (map (λ (t : Bor (List ℕ)). t.now)) c.deref.ensures.value in
-    subst (λ (d : DeskPlaces).
-    EndsStatus d c.args.patience c.args.way.form c.args.way.watches c.args.way.all asked.result o)
-    (sym c.in-File.is) (inr (
+    rw c.in-File.is (inr (
       c.in-Ok-hall_of_file.hall,
       c.in-Ok-hall_of_file.ensures.ok.0,
       c.in-Ok-hall_of_file.ensures.ok.1,
@@ -66,6 +46,6 @@ returns-in-Ok-addresses_of g c =
           key_is = refl;
           patience_is = refl;
         },
-        asked.ensures,
+        c.inquire-in-File.ensures,
       ),
     ))
