@@ -1,4 +1,5 @@
 pub mod Firsts
+pub mod Helping
 pub mod Leasts
 pub mod Numbered
 pub mod Places

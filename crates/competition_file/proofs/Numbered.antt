@@ -1,17 +1,17 @@
 -- A person found by where each number is first.
 use Rattle.std.proofs.Common.{◌≡◌, ◌<◌, ◌+◌, ◌++◌, ◌∷◌, ℕ, suc, List, [], length, map, get_or, take}
-use Rattle.std.proofs.Common.{take-suc, cond, refl, ap, sym, ◌∙◌, arith, add-one, nat_eq}
-use Rattle.std.proofs.Common.{Option, None, Some, Bool, true, false, Vec, Global}
+use Rattle.std.proofs.Common.{take-suc, cond, refl, ap, sym, ◌∙◌, arith, add-one}
+use Rattle.std.proofs.Common.{Option, None, Some, Bool, true, false, codes, subst, unwrap_or}
 use Rattle.std.specs.Prelude.{◌&&◌, find, if◌then◌else◌, option_map, slice_get}
-use Rattle.std.specs.{HashMap.get, List.position, Option.option_and_then, Option.option_or}
+use Rattle.std.specs.{List.position, Option.option_and_then, Option.option_or}
 use Rattle.std.proofs.lemmas.List.{length-map, length-take-le, map-append, map-id}
 use Rattle.serde_json.specs.Data.{Data}
 use Rattle.serde_json.specs.View.{view}
 use Rattle.serde_json.specs.declared.value.Value.{Value}
 use Rattle.wcif.specs.Persons.{has_number, is_accepted, is_number, number_of}
-use Rattle.competition_file.specs.{Files.data_of, Files.persons, Kept.IsKept}
-use Rattle.competition_file.specs.Groups.{seat_among, seat_of, seats_of}
-use Rattle.competition_file.specs.Numbers.{own_number}
+use Rattle.competition_file.specs.{Files.data_of, Files.persons, Kept.IsKept, Kept.kept_of}
+use Rattle.competition_file.specs.Groups.{seat_among, seat_of}
+use Rattle.competition_file.specs.Numbers.{own_number, text_of}
 use Rattle.competition_file.specs.declared.groups.{ActivitySeat.ActivitySeat}
 use Rattle.competition_file.specs.declared.groups.{RoundGroup.RoundGroup}
 use Rattle.competition_file.specs.declared.kept.KeptPersons.{KeptPersons}
@@ -66,28 +66,25 @@ person_found n vs ps o all is =
     alike_at view (λ d. d) vs ps (has_number n) o (all ∙ sym (map-id ps)) is
     ∙ same (find (has_number n) ps)
 
--- the seats at the place of a number give the seat of the person with it
-pub seat_found : (groups : List RoundGroup) (s : Option (List ActivitySeat)) (p : Option Data)
-    → s ≡ option_map seats_of p
-    → option_and_then (seat_among groups) s ≡ option_and_then (seat_of groups) p
-seat_found groups s None is = ap (option_and_then (seat_among groups)) is
-seat_found groups s (Some p) is = ap (option_and_then (seat_among groups)) is
-
 -- what is kept of the persons of a file is of those of these bytes
-pub noted : (n : ℕ) (bytes : List ℕ) (d : Data) (kept : KeptPersons) (o : Option ℕ)
-    → data_of bytes ≡ d → IsKept (persons d) kept → o ≡ get nat_eq kept.places n
-    → o ≡ position (has_number n) (persons (data_of bytes))
-noted n bytes d kept o are keeps is =
-    is ∙ keeps.places n ∙ ap (λ e. position (has_number n) (persons e)) (sym are)
+pub of_bytes : (bytes : List ℕ) (d : Data) (kept : KeptPersons) → data_of bytes ≡ d
+    → IsKept (persons d) kept → IsKept (persons (data_of bytes)) kept
+of_bytes bytes d kept are keeps = subst (λ e. IsKept (persons e) kept) (sym are) keeps
 
-pub seats_there : (n : ℕ) (bytes : List ℕ) (d : Data) (kept : KeptPersons)
-    (own : List (Vec ActivitySeat Global)) (o : Option ℕ)
-    → data_of bytes ≡ d → IsKept (persons d) kept → o ≡ get nat_eq kept.places n
-    → own ≡ kept.seats.items
-    → option_and_then (λ i. option_map (λ one. one.items) (slice_get own i)) o
-    ≡ option_map seats_of (find (has_number n) (persons (data_of bytes)))
-seats_there n bytes d kept own o are keeps is owns =
-    alike_at (λ one. one.items) seats_of own (persons (data_of bytes)) (has_number n) o
-    (ap (map (λ one. one.items)) owns ∙ keeps.seats
-    ∙ ap (λ e. map seats_of (persons e)) (sym are))
-    (noted n bytes d kept o are keeps is)
+module _ (k : Option (List ActivitySeat × List ℕ × List ℕ)) where
+  -- the seats that are kept of a person give the seat
+  pub seat_found : (groups : List RoundGroup) (p : Option Data) → k ≡ option_map kept_of p
+      → option_and_then (λ one. seat_among groups one.0) k ≡ option_and_then (seat_of groups) p
+  seat_found groups None is = ap (option_and_then (λ one. seat_among groups one.0)) is
+  seat_found groups (Some p) is = ap (option_and_then (λ one. seat_among groups one.0)) is
+
+  -- and the texts that are kept are those of the person
+  pub wca_id_found : (p : Option Data) → k ≡ option_map kept_of p
+      → unwrap_or (option_map (λ one. one.1) k) [] ≡ text_of (codes "wcaId") p
+  wca_id_found None is = ap (λ o. unwrap_or (option_map (λ one. one.1) o) []) is
+  wca_id_found (Some p) is = ap (λ o. unwrap_or (option_map (λ one. one.1) o) []) is
+
+  pub country_found : (p : Option Data) → k ≡ option_map kept_of p
+      → unwrap_or (option_map (λ one. one.2) k) [] ≡ text_of (codes "countryIso2") p
+  country_found None is = ap (λ o. unwrap_or (option_map (λ one. one.2) o) []) is
+  country_found (Some p) is = ap (λ o. unwrap_or (option_map (λ one. one.2) o) []) is

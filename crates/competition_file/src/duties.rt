@@ -1,14 +1,18 @@
 //! What somebody does in a group beside competing.
 
-ghost use Rattle.std.specs.Prelude.{◌≡◌, ◌++◌, IfOk, OnOk, flat_map, map};
+ghost use Rattle.std.specs.Prelude.{◌≡◌, ◌&&◌, ◌||◌, ◌==◌, ℕ, IfOk, OnOk, map, nat_eq, not};
+ghost use Rattle.std.specs.HashSet.{contains};
 ghost use Rattle.serde_json.specs.View.{view};
-ghost use Rattle.competition_file.specs.Duties.{duties_in, duties_of, duty_in, duty_named, is_this};
+ghost use Rattle.wcif.specs.Persons.{given_name as name_of};
+ghost use Rattle.competition_file.specs.Duties.{code_of, duty_at, has_duty, is_this};
+ghost use Rattle.competition_file.specs.Kept.{AddsName, AreHelpers, names_at};
 
 use crate::items::items_under;
 use attempts::NoMemory;
 use serde_json::Value;
 use std::alloc::Global;
-use wcif::{number_at, text_under};
+use std::collections::{HashMap, HashSet};
+use wcif::{given_name, number_at, text_under};
 
 /// What somebody does in a group beside competing.
 #[derive(Clone, Copy, Debug, PartialEq, Eq)]
@@ -18,84 +22,98 @@ pub enum Duty {
     Judge,
 }
 
-/// A duty, and the id of the activity of the group in which it is.
-#[derive(Clone, Copy, Debug, PartialEq, Eq)]
-pub struct GroupDuty {
-    pub activity: u64,
-    pub duty: Duty,
-}
+/// The names of those who have a duty in a group, by the id of the group's activity.
+pub(crate) type Names = HashMap<u64, Vec<Vec<u8>>>;
 
-impl GroupDuty {
-    /// Whether it is this duty in the group of this activity.
-    pub fn is(self, activity: u64, duty: Duty) -> bool
-        ensures { result ≡ is_this duty activity self }
-    {
-        self.duty == duty && self.activity == activity
+/// The `assignmentCode` of a duty.
+fn code_of(duty: Duty) -> &'static str
+    ensures { result.now ≡ code_of duty }
+{
+    match duty {
+        Duty::Scrambler => "staff-scrambler",
+        Duty::Runner => "staff-runner",
+        Duty::Judge => "staff-judge",
     }
 }
 
-/// The duty that has this `assignmentCode`.
-fn duty_named(code: &[u8]) -> Option<Duty>
-    ensures { result ≡ duty_named code.now }
+/// The id of the activity of the group in which an assignment is this duty.
+fn duty_at(duty: Duty, assignment: &Value) -> Option<u64>
+    ensures { result ≡ duty_at duty (view assignment.now) }
 {
-    if code == b"staff-scrambler".as_slice() {
-        Some(Duty::Scrambler)
-    } else if code == b"staff-runner".as_slice() {
-        Some(Duty::Runner)
-    } else if code == b"staff-judge".as_slice() {
-        Some(Duty::Judge)
+    if text_under(assignment, "assignmentCode").as_bytes() == code_of(duty).as_bytes() {
+        number_at(assignment, "activityId")
     } else {
         None
     }
 }
 
-/// The duty in a group that an assignment is.
-fn duty_in(assignment: &Value) -> Option<GroupDuty>
-    ensures { result ≡ duty_in (view assignment.now) }
+/// Adds a name at an activity.
+fn note_name(names: &mut Names, activity: u64, name: Vec<u8>) -> Result<(), NoMemory>
+    ensures { OnOk result (AddsName (λ id. activity == id) name.items names.old names.new) }
 {
-    let duty = duty_named(text_under(assignment, "assignmentCode").as_bytes())?;
-    let activity = number_at(assignment, "activityId")?;
-    Some(GroupDuty { activity, duty })
+    let mut noted = match names.remove(&activity) {
+        Some(noted) => noted,
+        None => Vec::new(*name.allocator()),
+    };
+    noted.push(name)?;
+    names.insert(activity, noted)?;
+    Ok(())
 }
 
-fn push_duty(duties: &mut Vec<GroupDuty>, assignment: &Value) -> Result<(), NoMemory>
-    ensures { OnOk result (duties.new.items
-        ≡ duties.old.items ++ duties_in (view assignment.now)) }
+/// Adds the name of a person where an assignment is this duty, unless it is there already.
+fn note_assignment(
+    names: &mut Names,
+    noted: &mut HashSet<u64>,
+    alloc: Global,
+    duty: Duty,
+    person: &Value,
+    assignment: &Value,
+) -> Result<(), NoMemory>
+    ensures noted { OnOk result ((id : ℕ) → contains nat_eq noted.new id
+        ≡ (contains nat_eq noted.old id || is_this duty id (view assignment.now))) }
+    ensures names { OnOk result (AddsName (λ id. is_this duty id (view assignment.now)
+        && not (contains nat_eq noted.old id)) (name_of (view person.now)) names.old names.new) }
 {
-    if let Some(duty) = duty_in(assignment) {
-        duties.push(duty)?;
+    let Some(activity) = duty_at(duty, assignment) else {
+        return Ok(());
+    };
+    if noted.insert(activity)? {
+        let name = Vec::from_slice(alloc, given_name(person).as_bytes())?;
+        note_name(names, activity, name)?;
     }
     Ok(())
 }
 
-fn push_duties(duties: &mut Vec<GroupDuty>, assignments: &[Value]) -> Result<(), NoMemory>
-    ensures { OnOk result (duties.new.items
-        ≡ duties.old.items ++ flat_map duties_in (map view assignments.now)) }
+/// Adds the name of a person, once at each activity in whose group the person has this duty.
+fn note_person(names: &mut Names, alloc: Global, duty: Duty, person: &Value) -> Result<(), NoMemory>
+    ensures { OnOk result (AddsName (λ id. has_duty duty id (view person.now))
+        (name_of (view person.now)) names.old names.new) }
 {
+    let mut noted = HashSet::new(alloc);
+    let assignments = items_under(person, "assignments");
     for assignment in assignments {
-        push_duty(duties, assignment)?;
+        note_assignment(names, &mut noted, alloc, duty, person, assignment)?;
     }
     Ok(())
 }
 
-/// All duties of a person, in the order of the assignments.
-#[tactic(auto, unfolding(crate::specs::Duties::duties_of))]
-fn duties_of(alloc: Global, person: &Value) -> Result<Vec<GroupDuty>, NoMemory>
-    ensures { IfOk result (λ duties. duties.items ≡ duties_of (view person.now)) }
+/// The names of those of these persons who have a duty, at each activity in their order.
+pub(crate) fn all_names(alloc: Global, duty: Duty, persons: &[Value]) -> Result<Names, NoMemory>
+    ensures { IfOk result (AreHelpers duty (map view persons.now)) }
 {
-    let mut duties = Vec::new(alloc);
-    push_duties(&mut duties, items_under(person, "assignments"))?;
-    Ok(duties)
+    let mut names = HashMap::new(alloc);
+    for person in persons {
+        note_person(&mut names, alloc, duty, person)?;
+    }
+    Ok(names)
 }
 
-/// The same for each of these persons.
-pub(crate) fn all_duties(alloc: Global, persons: &[Value]) -> Result<Vec<Vec<GroupDuty>>, NoMemory>
-    ensures { IfOk result (λ all. map (λ one. one.items) all.items
-        ≡ map duties_of (map view persons.now)) }
+/// The names that are noted at an activity.
+pub(crate) fn names_at(names: &Names, activity: u64) -> &[Vec<u8>]
+    ensures { map (λ name. name.items) result.now ≡ names_at names.now activity }
 {
-    let mut all = Vec::new(alloc);
-    for person in persons {
-        all.push(duties_of(alloc, person)?)?;
+    match names.get(&activity) {
+        Some(noted) => noted,
+        None => &[],
     }
-    Ok(all)
 }

@@ -6,14 +6,14 @@ ghost use Rattle.std.specs.Prelude.{IfErr, IfOk, OnErr, OnOk};
 ghost use Rattle.serde_json.specs.View.{view};
 ghost use Rattle.wcif.specs.Files.{Holds, ReadFails};
 ghost use Rattle.wcif.specs.Persons.{has_number, text_under as text_in};
-ghost use Rattle.competition_file.specs.{Duties.duties_of, Groups.seat_of};
+ghost use Rattle.competition_file.specs.{Duties.helpers, Groups.seat_of, Numbers.text_of};
 ghost use Rattle.competition_file.specs.Files.{RenewFails, data_of, is_same, persons, proposals};
-ghost use Rattle.competition_file.specs.Files.{venues};
+ghost use Rattle.competition_file.specs.{Files.venues, Kept.kept_of, Kept.seen};
 
-use crate::duties::GroupDuty;
-use crate::groups::{RoundGroup, Seat, seat_among, seats_at};
+use crate::duties::Duty;
+use crate::groups::{RoundGroup, Seat, seat_among};
 use crate::items::{items_of, items_under};
-use crate::kept::KeptPersons;
+use crate::kept::{KeptPerson, KeptPersons};
 use crate::numbers::{person_at, place_noted};
 use attempts::NoMemory;
 use serde_json::Value;
@@ -134,24 +134,54 @@ impl CompetitionFile {
         person_at(self.persons(), place_noted(&self.kept.places, number))
     }
 
+    /// What is kept of the first accepted person with a number.
+    fn kept_person(&self, number: u16) -> Option<&KeptPerson>
+        ensures { option_map (λ one. seen one.now) result
+            ≡ option_map kept_of (find (has_number number) (persons (data_of self.now))) }
+    {
+        self.kept.person(number)
+    }
+
     /// Where the first accepted person with a number competes, in one of these groups.
     pub fn seat(&self, groups: &[RoundGroup], number: u16) -> Option<Seat>
         ensures { result ≡ option_and_then (seat_of groups.now)
             (find (has_number number) (persons (data_of self.now))) }
     {
-        let place = place_noted(&self.kept.places, number);
-        match seats_at(&self.kept.seats, place) {
-            Some(seats) => seat_among(groups, seats),
+        match self.kept_person(number) {
+            Some(person) => seat_among(groups, &person.seats),
             None => None,
         }
     }
 
-    /// What each of the persons does beside competing, in the order of the file.
-    pub fn duties(&self) -> &[Vec<GroupDuty>]
-        ensures { map (λ one. one.items) result.now
-            ≡ map duties_of (persons (data_of self.now)) }
+    /// The WCA ID of the first accepted person with a number; the empty text where there is none.
+    pub fn wca_id(&self, number: u16) -> &[u8]
+        ensures { result.now ≡ text_of (codes "wcaId")
+            (find (has_number number) (persons (data_of self.now))) }
     {
-        &self.kept.duties
+        match self.kept_person(number) {
+            Some(person) => &person.wca_id,
+            None => b"",
+        }
+    }
+
+    /// The letters of that person's country; the empty text where there are none.
+    pub fn country(&self, number: u16) -> &[u8]
+        ensures { result.now ≡ text_of (codes "countryIso2")
+            (find (has_number number) (persons (data_of self.now))) }
+    {
+        match self.kept_person(number) {
+            Some(person) => &person.country,
+            None => b"",
+        }
+    }
+
+    /// The names of those who have a duty in the group whose activity has this id, in the order of
+    /// the file, each person once.
+    pub fn helpers(&self, duty: Duty, activity: u64) -> &[Vec<u8>]
+        ensures { map (λ name. name.items) result.now
+            ≡ helpers duty activity (persons (data_of self.now)) }
+    {
+        self.kept.helpers(duty, activity)
     }
 
     /// The venues of the schedule; none where there is no list of them. The `rooms` of each have

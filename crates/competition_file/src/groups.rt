@@ -1,7 +1,6 @@
 //! The groups of rounds, and who competes in which.
 
-ghost use Rattle.std.specs.Prelude.{◌≡◌, ◌++◌, flat_map, map, option_map, slice_get, IfOk, OnOk};
-ghost use Rattle.std.specs.Option.{option_and_then};
+ghost use Rattle.std.specs.Prelude.{◌≡◌, ◌++◌, flat_map, map, option_map, IfOk, OnOk};
 ghost use Rattle.serde_json.specs.View.{view};
 ghost use Rattle.competition_file.specs.Files.{data_of};
 ghost use Rattle.competition_file.specs.Groups.{activity_seat, after, group_in, group_prefix};
@@ -192,27 +191,12 @@ fn push_seats(seats: &mut Vec<ActivitySeat>, assignments: &[Value]) -> Result<()
 
 /// All activities in which a person competes, in the order of the assignments.
 #[tactic(auto, unfolding(crate::specs::Groups::seats_of))]
-fn seats_of(alloc: Global, person: &Value) -> Result<Vec<ActivitySeat>, NoMemory>
+pub(crate) fn seats_of(alloc: Global, person: &Value) -> Result<Vec<ActivitySeat>, NoMemory>
     ensures { IfOk result (λ seats. seats.items ≡ seats_of (view person.now)) }
 {
     let mut seats = Vec::new(alloc);
     push_seats(&mut seats, items_under(person, "assignments"))?;
     Ok(seats)
-}
-
-/// The same for each of these persons.
-pub(crate) fn all_seats(
-    alloc: Global,
-    persons: &[Value],
-) -> Result<Vec<Vec<ActivitySeat>>, NoMemory>
-    ensures { IfOk result (λ all. map (λ one. one.items) all.items
-        ≡ map seats_of (map view persons.now)) }
-{
-    let mut all = Vec::new(alloc);
-    for person in persons {
-        all.push(seats_of(alloc, person)?)?;
-    }
-    Ok(all)
 }
 
 /// The seat in an activity, where it is one of these groups.
@@ -237,15 +221,4 @@ pub(crate) fn seat_among(groups: &[RoundGroup], seats: &[ActivitySeat]) -> Optio
         }
     }
     None
-}
-
-/// The seats at a place.
-pub(crate) fn seats_at(
-    seats: &[Vec<ActivitySeat>],
-    place: Option<usize>,
-) -> Option<&Vec<ActivitySeat>>
-    ensures { option_map (λ one. one.now.items) result
-        ≡ option_and_then (λ i. option_map (λ one. one.items) (slice_get seats.now i)) place }
-{
-    seats.get(place?)
 }

@@ -14,7 +14,7 @@ mod numbers;
 mod opening;
 
 pub use bests::{ResultKind, best_of, kind_name};
-pub use duties::{Duty, GroupDuty};
+pub use duties::Duty;
 pub use fields::field_best;
 pub use file::{CompetitionFile, RenewFault};
 pub use groups::{RoundGroup, Seat, round_groups};

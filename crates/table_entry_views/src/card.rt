@@ -179,6 +179,7 @@ pub(crate) fn first_of(ids: &[FormId; 32]) -> FormId
 }
 
 /// Adds the tag of a form, with all ids but the first as spare ones.
+#[tactic(auto, unfolding(crate::specs::Card::form_tag))]
 fn push_form_tag(
     out: &mut Vec<u8>,
     ids: &[FormId; 32],
@@ -218,6 +219,7 @@ pub(crate) fn push_form_start(
 }
 
 /// Adds that a round is closed, and where it is opened again.
+#[tactic(auto, unfolding(crate::specs::Card::closed_words))]
 fn push_closed_words(out: &mut Vec<u8>, id: RoundId) -> Result<(), NoMemory>
     ensures { OnOk result (out.new.items ≡ out.old.items ++ closed_words id) }
 {

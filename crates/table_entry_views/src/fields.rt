@@ -210,6 +210,7 @@ fn push_beside(
 
 /// Adds the field of an attempt, 1 to 5: what is filled in, what is beside it, and what is said of
 /// it.
+#[tactic(auto, unfolding(crate::specs::Fields::field))]
 fn push_field(
     out: &mut Vec<u8>,
     draft: Draft<'_>,

@@ -345,6 +345,7 @@ pub(crate) fn push_notes(out: &mut Vec<u8>, place: u8, notes: &[CardNote]) -> Re
 const SAID_START: &[u8] = b"<span class=\"said\" id=\"said$\">";
 
 /// Adds the notes of a field, at a place, under the id by which the field names what describes it.
+#[tactic(auto, unfolding(crate::specs::Notes::said_at))]
 pub(crate) fn push_said(out: &mut Vec<u8>, place: u8, notes: &[CardNote]) -> Result<(), NoMemory>
     ensures { OnOk result (out.new.items ≡ out.old.items ++ said_at place notes.now) }
 {
@@ -382,6 +383,7 @@ fn invalid_if(wrong: bool) -> &'static [u8]
 const FIELD_END: &[u8] = b"\" aria-describedby=\"said$\"";
 
 /// Adds the end of a field, at a place: what describes it, and whether it has a fault.
+#[tactic(auto, unfolding(crate::specs::Notes::field_end))]
 pub(crate) fn push_field_end(
     out: &mut Vec<u8>,
     place: u8,

@@ -112,6 +112,7 @@ fn push_form_if(
 
 /// Adds the section of the card, which says first whether the round is closed. In a hall of an
 /// earlier edition it has no form of a card.
+#[tactic(auto, unfolding(crate::specs::Page::card_section))]
 fn push_card(
     out: &mut Vec<u8>,
     around: &PageContext<'_>,
@@ -130,6 +131,7 @@ fn push_card(
 }
 
 /// Adds what is before the round.
+#[tactic(auto, unfolding(crate::specs::Page::front))]
 fn push_front(
     out: &mut Vec<u8>,
     around: &PageContext<'_>,

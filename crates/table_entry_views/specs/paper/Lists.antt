@@ -1,8 +1,8 @@
 -- Who scrambles, runs and judges in each group of a round (the project's own).
-use Rattle.std.specs.Prelude.{ℕ, if◌then◌else◌, List, [], ◌∷◌, ◌++◌, codes, decimal, flat_map}
+use Rattle.std.specs.Prelude.{ℕ, List, [], ◌∷◌, ◌++◌, codes, decimal, flat_map}
 use Rattle.std.specs.Prelude.{Option, None, Some}
 use Rattle.serde_json.specs.Data.{Data}
-use Rattle.competition_file.specs.{Duties.has_duty, Files.data_of, Files.persons}
+use Rattle.competition_file.specs.{Duties.helpers, Files.data_of, Files.persons}
 use Rattle.competition_file.specs.Groups.{round_groups}
 use Rattle.competition_file.specs.declared.duties.Duty.{Duty}
 use Rattle.competition_file.specs.declared.duties.Duty.TheVariants.{Scrambler, Runner, Judge}
@@ -11,7 +11,6 @@ use Rattle.formats.specs.declared.advance.Advance.{Advance}
 use Rattle.markup.specs.{board_page.Escaped.escaped, Pieces.fill}
 use Rattle.round_words.specs.Words.{round_words}
 use Rattle.texts.specs.declared.command.RoundId.{RoundId}
-use Rattle.wcif.specs.Persons.{given_name}
 use Rattle.table_entry_views.specs.declared.paper.group_lists.TheConstants.{LIST_START, ONE}
 
 abbrev pub list_start : ℕ → List ℕ
@@ -22,15 +21,13 @@ duty_words Scrambler = codes "<div><h3>Scramblers</h3>\n<ul>"
 duty_words Runner = codes "<div><h3>Runners</h3>\n<ul>"
 duty_words Judge = codes "<div><h3>Judges</h3>\n<ul>"
 
--- a person's name, where the person has this duty in the group of an activity
-abbrev pub one_of : Duty → ℕ → Data → List ℕ
-one_of duty activity p =
-    if has_duty duty activity p then fill ONE.now (escaped (given_name p) ∷ []) else []
+abbrev pub helper : List ℕ → List ℕ
+helper name = fill ONE.now (escaped name ∷ [])
 
--- all who have it, in the order of the file
+-- all who have this duty in the group of an activity, in the order of the file
 abbrev pub duty_list : List Data → ℕ → Duty → List ℕ
 duty_list everyone activity duty =
-    duty_words duty ++ flat_map (one_of duty activity) everyone ++ codes "</ul></div>\n"
+    duty_words duty ++ flat_map helper (helpers duty activity everyone) ++ codes "</ul></div>\n"
 
 unfoldable pub group_list : List Data → RoundId → Advance → RoundGroup → List ℕ
 group_list everyone id advance group =

@@ -16,7 +16,7 @@ use Rattle.table_entry_views.specs.declared.paper.blank_cards.TheConstants.{CARD
 use Rattle.table_entry_views.specs.declared.paper.blank_cards.TheConstants.{CARD_TABLE_END, NOBODY}
 use Rattle.table_entry_views.specs.declared.paper.blank_cards.TheConstants.{STATION, WHO}
 use Rattle.table_entry_views.specs.declared.paper.card_order.CardSlot.{CardSlot}
-use Rattle.table_entry_views.specs.paper.Seating.{AreSeated, person_at, text_of}
+use Rattle.table_entry_views.specs.paper.Seating.{AreSeated, wca_id}
 
 -- after the attempts that the cutoff counts there is a line
 abbrev pub row_class : Option (ℕ × ℕ) → ℕ → List ℕ
@@ -56,7 +56,7 @@ abbrev pub card_with : Option (List ℕ) → List ℕ → RoundId → Settings �
     → List ℕ
 card_with file hall id settings below s name =
     blank_card hall id settings below
-    (who s.number name (text_of (codes "wcaId") (person_at file s.number)) (seat_words s.seat))
+    (who s.number name (wca_id file s.number) (seat_words s.seat))
 
 -- the card of a slot
 abbrev pub card_of : List Command → Option (List ℕ) → List ℕ → RoundId → Settings → List ℕ

@@ -10,7 +10,7 @@ ghost use Rattle.table_entry_views.specs.paper.Scorecards.{IsCardsPage, IsScorec
 ghost use Rattle.table_entry_views.specs.paper.Scorecards.{seat_words, station_words, who};
 
 use crate::paper::card_foot::foot;
-use crate::paper::card_order::{CardSlot, person_at, seated, text_of};
+use crate::paper::card_order::{CardSlot, seated, wca_id};
 use crate::paper::frame::{push_bottom, push_top};
 use crate::paper::group_lists::push_lists;
 use attempts::NoMemory;
@@ -189,7 +189,7 @@ fn push_card_of(
     };
     let alloc = *out.allocator();
     let seat = seat_words(alloc, slot.seat)?;
-    let wca_id = text_of(person_at(file, slot.number), "wcaId");
+    let wca_id = wca_id(file, slot.number);
     let who = who(alloc, slot.number, name, wca_id, &seat)?;
     push_card(out, hall, id, settings, foot, &who)
 }

@@ -1,22 +1,18 @@
 //! Who scrambles, runs and judges in each group of a round.
 
 ghost use Rattle.std.specs.Prelude.{◌≡◌, ◌++◌, OnOk, flat_map, map};
-ghost use Rattle.std.specs.List.{list_any};
 ghost use Rattle.std.specs.Option.{option_copied};
-ghost use Rattle.serde_json.specs.View.{view};
-ghost use Rattle.competition_file.specs.Duties.{duties_of, is_this};
-ghost use Rattle.table_entry_views.specs.paper.Lists.{duty_list, duty_words, group_list, lists};
-ghost use Rattle.table_entry_views.specs.paper.Lists.{list_start, one_of};
+ghost use Rattle.competition_file.specs.Files.{data_of, persons};
+ghost use Rattle.table_entry_views.specs.paper.Lists.{duty_list, duty_words, group_list};
+ghost use Rattle.table_entry_views.specs.paper.Lists.{helper, list_start, lists};
 
 use attempts::NoMemory;
-use competition_file::{CompetitionFile, Duty, GroupDuty, RoundGroup, round_groups};
+use competition_file::{CompetitionFile, Duty, RoundGroup, round_groups};
 use formats::Advance;
 use markup::Piece::{Number, Text};
 use markup::fill;
 use round_words::push_round_words;
-use serde_json::Value;
 use texts::RoundId;
-use wcif::given_name;
 
 const LIST_START: &[u8] = b", group $</h2>\n";
 
@@ -39,46 +35,18 @@ fn duty_words(duty: Duty) -> &'static [u8]
 
 const ONE: &[u8] = b"<li>$</li>\n";
 
-/// Whether a duty in the group of an activity is among these.
-fn is_among(duties: &[GroupDuty], duty: Duty, activity: u64) -> bool
-    ensures { result ≡ list_any (is_this duty activity) duties.now }
+fn push_helper(out: &mut Vec<u8>, name: &[u8]) -> Result<(), NoMemory>
+    ensures { OnOk result (out.new.items ≡ out.old.items ++ helper name.now) }
 {
-    duties.iter().any(|one| one.is(activity, duty))
+    fill(out, ONE, &[Text(name)])
 }
 
-/// Adds the name of a person with these duties, where this one in the group of an activity is among
-/// them.
-fn push_one(
-    out: &mut Vec<u8>,
-    duty: Duty,
-    activity: u64,
-    person: &Value,
-    duties: &[GroupDuty],
-) -> Result<(), NoMemory>
-    requires { duties.now ≡ duties_of (view person.now) }
+fn push_all(out: &mut Vec<u8>, names: &[Vec<u8>]) -> Result<(), NoMemory>
     ensures { OnOk result (out.new.items
-        ≡ out.old.items ++ one_of duty activity (view person.now)) }
+        ≡ out.old.items ++ flat_map helper (map (λ name. name.items) names.now)) }
 {
-    if is_among(duties, duty, activity) {
-        fill(out, ONE, &[Text(given_name(person).as_bytes())])
-    } else {
-        Ok(())
-    }
-}
-
-fn push_all(
-    out: &mut Vec<u8>,
-    duty: Duty,
-    activity: u64,
-    persons: &[Value],
-    duties: &[Vec<GroupDuty>],
-) -> Result<(), NoMemory>
-    requires { map (λ one. one.items) duties.now ≡ map duties_of (map view persons.now) }
-    ensures { OnOk result (out.new.items
-        ≡ out.old.items ++ flat_map (one_of duty activity) (map view persons.now)) }
-{
-    for place in 0..persons.len() {
-        push_one(out, duty, activity, &persons[place], &duties[place])?;
+    for name in names {
+        push_helper(out, name)?;
     }
     Ok(())
 }
@@ -86,57 +54,51 @@ fn push_all(
 /// Adds the names of those who have a duty in the group of an activity.
 fn push_duty(
     out: &mut Vec<u8>,
+    file: &CompetitionFile,
     duty: Duty,
     activity: u64,
-    persons: &[Value],
-    duties: &[Vec<GroupDuty>],
 ) -> Result<(), NoMemory>
-    requires { map (λ one. one.items) duties.now ≡ map duties_of (map view persons.now) }
     ensures { OnOk result (out.new.items
-        ≡ out.old.items ++ duty_list (map view persons.now) activity duty) }
+        ≡ out.old.items ++ duty_list (persons (data_of file.now)) activity duty) }
 {
     out.extend_from_slice(duty_words(duty))?;
-    push_all(out, duty, activity, persons, duties)?;
+    push_all(out, file.helpers(duty, activity))?;
     out.extend_from_slice(b"</ul></div>\n")
 }
 
 /// Adds the lists of a group.
 fn push_group(
     out: &mut Vec<u8>,
-    persons: &[Value],
-    duties: &[Vec<GroupDuty>],
+    file: &CompetitionFile,
     id: RoundId,
     advance: Advance,
     group: RoundGroup,
 ) -> Result<(), NoMemory>
-    requires { map (λ one. one.items) duties.now ≡ map duties_of (map view persons.now) }
     ensures { OnOk result (out.new.items
-        ≡ out.old.items ++ group_list (map view persons.now) id advance group) }
+        ≡ out.old.items ++ group_list (persons (data_of file.now)) id advance group) }
 {
     out.extend_from_slice(b"<section class=\"duties\"><h2>")?;
     push_round_words(out, id, advance)?;
     push_list_start(out, group.number)?;
-    push_duty(out, Duty::Scrambler, group.activity, persons, duties)?;
-    push_duty(out, Duty::Runner, group.activity, persons, duties)?;
-    push_duty(out, Duty::Judge, group.activity, persons, duties)?;
+    push_duty(out, file, Duty::Scrambler, group.activity)?;
+    push_duty(out, file, Duty::Runner, group.activity)?;
+    push_duty(out, file, Duty::Judge, group.activity)?;
     out.extend_from_slice(b"</section>\n")?;
     Ok(())
 }
 
 fn push_all_groups(
     out: &mut Vec<u8>,
-    persons: &[Value],
-    duties: &[Vec<GroupDuty>],
+    file: &CompetitionFile,
     id: RoundId,
     advance: Advance,
     groups: &[RoundGroup],
 ) -> Result<(), NoMemory>
-    requires { map (λ one. one.items) duties.now ≡ map duties_of (map view persons.now) }
     ensures { OnOk result (out.new.items ≡ out.old.items
-        ++ flat_map (group_list (map view persons.now) id advance) groups.now) }
+        ++ flat_map (group_list (persons (data_of file.now)) id advance) groups.now) }
 {
     for group in groups {
-        push_group(out, persons, duties, id, advance, *group)?;
+        push_group(out, file, id, advance, *group)?;
     }
     Ok(())
 }
@@ -156,5 +118,5 @@ pub(crate) fn push_lists(
         return Ok(());
     };
     let groups = round_groups(*out.allocator(), file, id)?;
-    push_all_groups(out, file.persons(), file.duties(), id, advance, &groups)
+    push_all_groups(out, file, id, advance, &groups)
 }

@@ -1,19 +1,18 @@
 //! Labels for all who are registered.
 
 ghost use Rattle.std.specs.Prelude.{◌≡◌, ◌≤◌, ◌<◌, ◌++◌, IfOk, OnOk};
-ghost use Rattle.std.specs.Option.{option_copied, option_map};
-ghost use Rattle.serde_json.specs.View.{view};
-ghost use Rattle.table_entry_views.specs.paper.Labels.{label, labels, labels_page, next_label};
+ghost use Rattle.std.specs.Option.{option_copied};
+ghost use Rattle.table_entry_views.specs.paper.Labels.{country, label, labels, labels_page};
+ghost use Rattle.table_entry_views.specs.paper.Labels.{next_label};
 ghost use Rattle.table_entry_views.specs.paper.Wall.{accepted_in};
 
-use crate::paper::card_order::{person_at, text_of};
+use crate::paper::card_order::wca_id;
 use crate::paper::frame::{push_bottom, push_top};
 use attempts::NoMemory;
 use commands::Meet;
 use competition_file::CompetitionFile;
 use markup::Piece::{Number, Text};
 use markup::fill;
-use serde_json::Value;
 use std::alloc::Global;
 use table_views::PageContext;
 
@@ -25,23 +24,32 @@ const LABEL: &[u8] = b"\
 <p class=\"label\"><b>$</b> <bdi>$</bdi> <span>$ $</span></p>
 ";
 
-/// Adds the label of a competitor with this number and name, who is this person in the file.
+/// The letters of the country of the person with a number, by the file; the empty text where there
+/// are none.
+fn country(file: Option<&CompetitionFile>, number: u16) -> &[u8]
+    ensures { result.now ≡ country (option_copied file.entry) number }
+{
+    match file {
+        Some(file) => file.country(number),
+        None => b"",
+    }
+}
+
+/// Adds the label of a competitor with this number and name.
 fn push_label<'a>(
     out: &mut Vec<u8>,
-    person: Option<&'a Value>,
+    file: Option<&'a CompetitionFile>,
     number: u16,
     name: &'a [u8],
 ) -> Result<(), NoMemory>
     ensures { OnOk result (out.new.items
-        ≡ out.old.items ++ label (option_map (λ p. view p.now) person.entry) number name.now) }
+        ≡ out.old.items ++ label (option_copied file.entry) number name.now) }
 {
-    let wca_id = text_of(person, "wcaId");
-    let country = text_of(person, "countryIso2");
     let pieces = [
         Number(number as u64),
         Text(name),
-        Text(wca_id),
-        Text(country),
+        Text(wca_id(file, number)),
+        Text(country(file, number)),
     ];
     fill(out, LABEL, &pieces)
 }
@@ -58,7 +66,7 @@ fn push_next_label(
         ≡ out.old.items ++ next_label meet.now.accepted (option_copied file.entry) number) }
 {
     match meet.name(number + 1) {
-        Some(name) => push_label(out, person_at(file, number + 1), number + 1, name),
+        Some(name) => push_label(out, file, number + 1, name),
         None => Ok(()),
     }
 }

@@ -1,10 +1,9 @@
 use Rattle.std.proofs.Common.{◌≡◌, ◌++◌, flat_map, map, take}
-use Rattle.serde_json.specs.View.{view}
-use Rattle.table_entry_views.specs.paper.Lists.{one_of}
+use Rattle.table_entry_views.specs.paper.Lists.{helper}
 use Rattle.table_entry_views.proofs.paper.group_lists.push_all.Given as goal
 
-abbrev pub invariant-loop-place : goal.invariant-loop-place
-invariant-loop-place l =
+abbrev pub invariant-loop-name : goal.invariant-loop-name
+invariant-loop-name l =
     l.out.items
     ≡ l.initial.out.items
-    ++ flat_map (one_of l.duty l.activity) (map view (take l.place l.persons))
+    ++ flat_map helper (map (λ name. name.items) (take l.name-index l.names))

@@ -1,8 +1,8 @@
-use Rattle.std.proofs.Common.{◌++◌, codes, map}
+use Rattle.std.proofs.Common.{◌++◌, codes}
+use Rattle.competition_file.specs.Files.{data_of, persons}
 use Rattle.competition_file.specs.declared.duties.Duty.TheVariants.{Scrambler, Runner, Judge}
 use Rattle.markup.proofs.board_page.Steps.{six_parts, two_parts}
 use Rattle.round_words.specs.Words.{round_words}
-use Rattle.serde_json.specs.View.{view}
 use Rattle.table_entry_views.specs.paper.Lists.{duty_list, group_list, list_start}
 use Rattle.table_entry_views.proofs.paper.group_lists.push_group.Goals as goal
 
@@ -13,7 +13,7 @@ returns c =
     let start = codes "<section class=\"duties\"><h2>" in
     let words = round_words c.args.id c.args.advance in
     let number = list_start c.args.group.number in
-    let of = duty_list (map view c.args.persons.now) c.args.group.activity in
+    let of = duty_list (persons (data_of c.args.file.now)) c.args.group.activity in
     two_parts out (start ++ words ++ number ++ of Scrambler ++ of Runner ++ of Judge)
     (codes "</section>\n") _ _
     (six_parts out start words number (of Scrambler) (of Runner) (of Judge) _ _ _ _ _ _
