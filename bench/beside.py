@@ -15,7 +15,12 @@ NUMBER = re.compile("[1-9][0-9]{0,3}")
 ON_PAGE = 4
 DUTIES = {"Scramblers": "staff-scrambler", "Runners": "staff-runner", "Judges": "staff-judge"}
 DOES = {"competitor": "competes", "staff-scrambler": "scrambles", "staff-runner": "runs",
-        "staff-judge": "judges"}
+        "staff-judge": "judges", "staff-dataentry": "enters results",
+        "staff-announcer": "announces", "staff-delegate": "is a delegate",
+        "staff-stagelead": "leads the stage", "staff-core": "is on the core staff",
+        "staff-setup": "sets up", "staff-other": "helps"}
+# the code of an activity that is a round, as 333-r1, or a part of one, as 333-r1-g2
+OF_ROUND = re.compile("([^-]*)-r([1-4])(-.*)?", re.S)
 
 
 def numbered(value, name, most):
@@ -187,17 +192,25 @@ def named(activity, one):
     return name if name.startswith(of) else f"{of}, {name}"
 
 
-def schedule(value):
+def leads_to(one, opened):
+    """Where the name of an activity leads: to the page of its round, if that is one of these."""
+    found = OF_ROUND.fullmatch(text(one, "activityCode") or "")
+    if found is None or (found[1], int(found[2])) not in opened:
+        return []
+    return [f"/{found[1]}-{found[2]}"]
+
+
+def schedule(value, opened):
     """A table for each room: the time zone, the room and the venue, and the lines. A line has
-    whether it is of a group, from when to when, the whole name, and the name."""
+    whether it is of a group, from when to when, the whole name, the name, and the path that this
+    leads to, if it does. `opened` has the rounds that were opened."""
     tables = []
     for venue, room in rooms(value):
         lines = []
         for activity in in_order(listed(room, "activities")):
-            lines.append([False, *times(activity), named(activity, activity),
-                          text(activity, "name") or ""])
-            lines += [[True, *times(child), named(activity, child), text(child, "name") or ""]
-                      for child in in_order(listed(activity, "childActivities"))]
+            for one in (activity, *in_order(listed(activity, "childActivities"))):
+                lines.append([one is not activity, *times(one), named(activity, one),
+                              text(one, "name") or "", *leads_to(one, opened)])
         tables.append([text(venue, "timezone") or "", text(room, "name") or "",
                        text(venue, "name") or "", lines])
     return tables

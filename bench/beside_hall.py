@@ -32,9 +32,9 @@ class Program:
         if self.address not in line:
             raise desks.Fault(f"{path} did not start: {line!r} {self.said.read_text()!r}")
 
-    def get(self, path):
+    def get(self, path, **fields):
         """Status, what is said of the page, and the page."""
-        request = urllib.request.Request(f"http://{self.address}{path}")
+        request = urllib.request.Request(f"http://{self.address}{path}", headers=fields)
         try:
             with urllib.request.urlopen(request, timeout=LONGEST) as answer:
                 kept = [answer.headers[name] for name in ("Content-Type", "Cache-Control", "ETag")]

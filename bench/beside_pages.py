@@ -52,7 +52,8 @@ def lines_of(page, section, *attributes):
 
 
 def tables_of(page):
-    """The tables of a schedule: the time zone, the room, the caption, and the lines."""
+    """The tables of a schedule: the time zone, the room, the caption, and the lines, each with the
+    path that its name leads to, if it does."""
     tables = []
     for tag, kind, text, of in Text(page).found:
         if tag == "table":
@@ -66,6 +67,8 @@ def tables_of(page):
             tables[-1][3][-1] += [of.get("datetime"), text]
         elif tag == "th" and of.get("scope") == "row":
             tables[-1][3][-1].append(text)
+        elif tag == "a" and tables:
+            tables[-1][3][-1].append(of["href"])
     return tables
 
 

@@ -8,6 +8,7 @@ tests/pages/board_pages.rt.txt says how they are written. The sheets come from
 bench/rules.py, which shares nothing with the crates. Standard library only.
 """
 
+import hashlib
 import html
 import json
 import re
@@ -271,6 +272,13 @@ def file_page(title, what, section):
 """
 
 
+def with_head(body):
+    """A page of a competition's file, and what is said of it: its tag is of its body."""
+    sent = body.encode()
+    tag = f"{len(sent)}-{hashlib.sha256(sent).hexdigest()}"
+    return f'text/html; charset=utf-8\nno-cache\n"{tag}"\n\n{body}'
+
+
 def psych(title, value, event):
     """The page of who is registered for an event by a competition's file."""
     words, kinds = WORDS[event], beside.kinds_of(event)
@@ -337,9 +345,9 @@ def main():
             out = f"== {path}\n"
             found = re.fullmatch(f"/records/{ROUND}", path)
             if file is not None and path.removeprefix("/psych/") in WORDS:
-                out += psych(title, file, path.removeprefix("/psych/"))
+                out += with_head(psych(title, file, path.removeprefix("/psych/")))
             elif file is not None and found:
-                out += records(title, file, meet_of(log), found[1], int(found[2]))
+                out += with_head(records(title, file, meet_of(log), found[1], int(found[2])))
             elif shown is None:
                 out += "none\n"
             else:

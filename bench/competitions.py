@@ -39,7 +39,8 @@ ODD = ("Tom & <b>Jerry</b>", "Ana María de los Ángeles Fernández-Villaverde y
 COUNTRIES = ("DE", "CN", "US", "KR", "JP", "PL", "SA", "GB", "FR", "TH")
 HELP = ("staff-judge", "staff-scrambler", "staff-runner", "staff-judge")
 # what else a tool may assign
-OTHER = ("staff-dataentry", "staff-announcer", "staff-delegate", "staff-<photo & film>")
+OTHER = ("staff-dataentry", "staff-announcer", "staff-delegate", "staff-<photo & film>",
+         "staff-stagelead", "staff-core", "staff-setup", "staff-other", "staff-judges")
 ZONES = ("Europe/Berlin", "America/St_Johns")
 DAY = "2026-11-%02dT%02d:%02d:00Z"
 

@@ -88,14 +88,13 @@ if_read false view = None
 abbrev pub asks_file : Request (List ℕ) → Option FileView
 asks_file request = if_read (is_read (head_of request).method) (view_at (path_of request))
 
--- the page of the file beside the log, which nobody is to keep; the reply for none, where there is
--- no file
+-- the reply for the page of the file beside the log; that for none, where there is no file
 abbrev pub ShowsFile : List ℕ → Option (List ℕ) → List Entry → FileView → Request (List ℕ)
     → Response → Type 0
 ShowsFile title None log view request response = Replies request None response
 ShowsFile title (Some file) log view request response =
-    (text : List ℕ) × IsFilePage title (data_of file) (accepted_in log) view text
-    × IsResponse 200 (fields_of (codes "text/html; charset=utf-8")) text response
+    (page : Page) × IsFilePage title (data_of file) (accepted_in log) view page
+    × Replies request (Some page) response
 
 -- ---- answers
 

@@ -63,12 +63,12 @@ fn file_page_beside(
     file: &CompetitionFile,
     title: &[u8],
     view: FileView,
-) -> Result<Vec<u8>, AllocError>
-    ensures { IfOk result (λ text.
-        IsFilePage title.now (data_of file.now) (accepted_in mirror.now) view text.items) }
+) -> Result<Page, AllocError>
+    ensures { IfOk result (λ page.
+        IsFilePage title.now (data_of file.now) (accepted_in mirror.now) view page) }
 {
-    let text = file_page(alloc, file, mirror.meet(), title, view)?;
-    Ok(text)
+    let page = file_page(alloc, file, mirror.meet(), title, view)?;
+    Ok(page)
 }
 
 /// Answers browsers with the pages of a mirror of a hall's log, and programs that ask how the desks
@@ -264,12 +264,8 @@ impl BoardService {
             return Ok(());
         };
         let mirror = self.mirroring.mirror();
-        let text = file_page_beside(self.alloc, mirror, file, self.title.as_bytes(), view)?;
-        send_status(
-            HeaderValue::from_static("text/html; charset=utf-8"),
-            text,
-            response,
-        )
+        let page = file_page_beside(self.alloc, mirror, file, self.title.as_bytes(), view)?;
+        reply(request, Some(&page), response)
     }
 
     /// Answers a request for a page of the list.
@@ -294,8 +290,8 @@ impl Service for BoardService {
     ghost use Rattle.board_service.specs.Services.{Answers};
 
     // The response is that of `markup::replies::reply` for the page that is at the request's path
-    // as the mirror is, or a page of the competition's file, or says how the desks are or when they
-    // said so, and nothing changes.
+    // as the mirror and the competition's file are, or says how the desks are or when they said so,
+    // and nothing changes.
     ghost answers = { Answers };
 
     fn call(

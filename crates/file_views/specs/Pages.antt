@@ -1,7 +1,11 @@
 -- The pages of a competition's file (the project's own).
-use Rattle.std.specs.Prelude.{◌≡◌, ℕ, List, [], ◌∷◌, codes, decimal}
+use Rattle.std.specs.Prelude.{◌≡◌, ℕ, List, [], ◌∷◌, codes, decimal, length}
+use Rattle.hex.specs.Hex.{encode_lower}
+use Rattle.http_header.specs.FieldValue.{plain_value}
 use Rattle.serde_json.specs.Data.{Data}
-use Rattle.markup.specs.{board_page.Escaped.escaped, Pieces.fill}
+use Rattle.sha2.specs.Sha256.{sha256}
+use Rattle.markup.specs.{board_page.Escaped.escaped, Pieces.fill, replies.Tags.tag_text}
+use Rattle.markup.specs.declared.replies.page.Page.{Page}
 use Rattle.round_words.specs.Words.{event_words}
 use Rattle.texts.specs.declared.command.Command.{Command}
 use Rattle.record_views.specs.Records.{records}
@@ -18,10 +22,11 @@ what Schedule = codes "Schedule"
 what (Today number) = fill TODAY.now (decimal number ∷ [])
 what (Records id) = fill RECORDS.now (event_words id.event ∷ decimal id.round ∷ [])
 
--- the section of a view: of the file and, where it is of a round, of the accepted commands
+-- the section of a view: of the file and, where it shows or leads to rounds, of the accepted
+-- commands
 abbrev pub IsSectionOf : Data → List Command → FileView → List ℕ → Type 0
 IsSectionOf file accepted (Psych e) section = PushesPsych file e [] section
-IsSectionOf file accepted Schedule section = section ≡ schedule file
+IsSectionOf file accepted Schedule section = section ≡ schedule accepted file
 IsSectionOf file accepted (Today number) section = section ≡ today number file
 IsSectionOf file accepted (Records id) section = section ≡ records file accepted id
 
@@ -30,9 +35,18 @@ abbrev pub framed : (what title section : List ℕ) → List ℕ
 framed what title section =
     fill FRAME.now (what ∷ escaped title ∷ escaped title ∷ section ∷ [])
 
--- the page of a file at one of its paths, beside these accepted commands
+-- the entity tag of a body: its length and, in hexadecimal digits, its digest (SHA-256 of FIPS
+-- 180-4); of two bodies with one tag none is known
+abbrev pub body_tag : List ℕ → List ℕ
+body_tag body = tag_text (length body) (encode_lower (sha256 body))
+
+-- the page of a file at one of its paths, beside these accepted commands; a browser asks each time
+-- whether it has changed
 pub record IsFilePage (title : List ℕ) (file : Data) (accepted : List Command) (view : FileView)
-    (page : List ℕ) : Type 0 where
+    (page : Page) : Type 0 where
   pub section : List ℕ
   pub of : IsSectionOf file accepted view section
-  pub is : page ≡ framed (what view) title section
+  pub body : page.body ≡ framed (what view) title section
+  pub kind : page.content_type ≡ plain_value (codes "text/html; charset=utf-8")
+  pub keeping : page.cache_control ≡ plain_value (codes "no-cache")
+  pub tag : page.tag ≡ plain_value (body_tag page.body)

@@ -2,18 +2,23 @@
 
 ghost use Rattle.std.specs.Prelude.{◌≡◌, ◌++◌, IfOk, OnOk};
 ghost use Rattle.competition_file.specs.Files.{data_of};
-ghost use Rattle.file_views.specs.Pages.{IsFilePage, IsSectionOf, framed, what};
+ghost use Rattle.file_views.specs.Pages.{IsFilePage, IsSectionOf, body_tag, framed, what};
+ghost use Rattle.http_header.specs.FieldValue.{plain_value};
 
 use crate::paths::FileView;
 use crate::psych::push_psych;
 use attempts::NoMemory;
+use bytes::Bytes;
 use commands::Meet;
 use competition_file::CompetitionFile;
+use http::HeaderValue;
+use markup::replies::{Page, entity_tag};
 use markup::{Piece, fill};
 use record_views::push_records;
 use round_words::event_words;
 use schedule_views::{push_schedule, push_today};
-use std::alloc::Global;
+use sha2::{Digest, Sha256};
+use std::alloc::{AllocError, Global};
 
 /// The frame: what the page is of, the competition, the competition again, and the section.
 const FRAME: &[u8] = b"\
@@ -62,7 +67,7 @@ fn section_of(
     let mut section = Vec::new(alloc);
     match view {
         FileView::Psych(event) => push_psych(&mut section, file, event)?,
-        FileView::Schedule => push_schedule(&mut section, file)?,
+        FileView::Schedule => push_schedule(&mut section, file, meet)?,
         FileView::Today(number) => push_today(&mut section, file, number)?,
         FileView::Records(id) => push_records(&mut section, file, meet, id)?,
     }
@@ -82,8 +87,20 @@ fn framed(alloc: Global, title: &[u8], view: FileView, section: &[u8]) -> Result
     Ok(page)
 }
 
-/// The body of a page of a file, under the title of the competition, in HTML. What it says of a
-/// round is of the competition so far.
+/// The entity tag of a body. It has only bytes that a header field can have, so that it is refused
+/// only for memory.
+fn tag_of(alloc: Global, body: &[u8]) -> Result<HeaderValue, NoMemory>
+    ensures { IfOk result (λ tag. tag ≡ plain_value (body_tag body.now)) }
+{
+    let digest = hex::encode(alloc, Sha256::digest(body).as_slice())?;
+    match entity_tag(alloc, body.len() as u64, digest.as_bytes()) {
+        Ok(tag) => Ok(tag),
+        Err(_) => Err(AllocError),
+    }
+}
+
+/// A page of a file, under the title of the competition, in HTML. What it says of a round is of the
+/// competition so far. A browser has to ask each time; its entity tag is made of the body alone.
 ///
 /// # Errors
 ///
@@ -94,11 +111,17 @@ pub fn file_page(
     meet: &Meet,
     title: &[u8],
     view: FileView,
-) -> Result<Vec<u8>, NoMemory>
+) -> Result<Page, NoMemory>
     ensures { IfOk result (λ page.
-        IsFilePage title.now (data_of file.now) meet.now.accepted view page.items) }
+        IsFilePage title.now (data_of file.now) meet.now.accepted view page) }
 {
     let section = section_of(alloc, file, meet, view)?;
-    let page = framed(alloc, title, view, &section)?;
-    Ok(page)
+    let body = framed(alloc, title, view, &section)?;
+    let tag = tag_of(alloc, &body)?;
+    Ok(Page {
+        content_type: HeaderValue::from_static("text/html; charset=utf-8"),
+        cache_control: HeaderValue::from_static("no-cache"),
+        tag,
+        body: Bytes::from_vec(body)?,
+    })
 }

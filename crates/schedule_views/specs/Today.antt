@@ -1,8 +1,8 @@
 -- What a person of a competition's file in the WCA Competition Interchange Format is assigned to
 -- (its Assignment), and the section of it (the project's own).
-use Rattle.std.specs.Prelude.{ℕ, if◌then◌else◌, List, [], ◌∷◌, bytes_eq, codes, decimal, find}
+use Rattle.std.specs.Prelude.{ℕ, List, [], ◌∷◌, bytes_eq, codes, decimal, find}
 use Rattle.std.specs.Prelude.{flat_map, map, slice_get, unwrap_or, Option, None, Some}
-use Rattle.std.specs.Option.{option_map}
+use Rattle.std.specs.{Map.lookup, Option.option_map}
 use Rattle.serde_json.specs.Data.{Data}
 use Rattle.competition_file.specs.{Files.persons, Items.items_under}
 use Rattle.markup.specs.{board_page.Escaped.escaped, Pieces.fill}
@@ -13,14 +13,25 @@ use Rattle.schedule_views.specs.Spots.{spots}
 use Rattle.schedule_views.specs.Schedule.{end_of, start_of, what}
 use Rattle.schedule_views.specs.declared.today.TheConstants.{LOST, NOBODY, NOTHING, PERSON, TASK}
 
--- what an assignment's code says: to compete or to help; another one is shown as it is
+-- what the codes of assignments say: to compete, to help with a round, or another duty
+abbrev pub duties : List (List ℕ × List ℕ)
+duties =
+    (codes "competitor", codes "competes")
+    ∷ (codes "staff-scrambler", codes "scrambles")
+    ∷ (codes "staff-runner", codes "runs")
+    ∷ (codes "staff-judge", codes "judges")
+    ∷ (codes "staff-dataentry", codes "enters results")
+    ∷ (codes "staff-announcer", codes "announces")
+    ∷ (codes "staff-delegate", codes "is a delegate")
+    ∷ (codes "staff-stagelead", codes "leads the stage")
+    ∷ (codes "staff-core", codes "is on the core staff")
+    ∷ (codes "staff-setup", codes "sets up")
+    ∷ (codes "staff-other", codes "helps")
+    ∷ []
+
+-- the words of a code; another code is shown as it is
 abbrev pub do_words : List ℕ → List ℕ
-do_words code =
-    if bytes_eq code (codes "competitor") then codes "competes"
-    else if bytes_eq code (codes "staff-scrambler") then codes "scrambles"
-    else if bytes_eq code (codes "staff-runner") then codes "runs"
-    else if bytes_eq code (codes "staff-judge") then codes "judges"
-    else escaped code
+do_words code = unwrap_or (lookup (bytes_eq code) duties) (escaped code)
 
 abbrev pub number_words : Option ℕ → List ℕ
 number_words None = []

@@ -1,5 +1,5 @@
 //! What a competition's file says of times and places: the schedule, and what one person still has
-//! to do. It is of the file alone, and of no list of results.
+//! to do. The schedule leads to the rounds that were opened; all else is of the file alone.
 #![tactic(auto)]
 
 mod laws;

@@ -15,7 +15,10 @@ const TIMES: &[u8] = b"\
 section tr.day th { text-align: start; padding-top: .8em; }
 section tr.now > * { background: var(--new); }
 section tr.next > * { background: var(--through); }
-@media screen { tr.over > *, tr.later > * { opacity: .5; } }
+@media screen {
+  tr.over > *, tr.later > * { opacity: .5; }
+  .schedule th a { text-decoration: underline; }
+}
 </style>
 <script>
 \"use strict\";

@@ -59,19 +59,22 @@ const LOST: &[u8] = b"\
 ";
 
 /// What somebody is to do.
-fn do_piece(code: &[u8]) -> Piece<'_>
+fn do_piece(code: &str) -> Piece<'_>
     ensures { piece_text result ≡ do_words code.now }
 {
-    if code == b"competitor".as_slice() {
-        Html(b"competes")
-    } else if code == b"staff-scrambler".as_slice() {
-        Html(b"scrambles")
-    } else if code == b"staff-runner".as_slice() {
-        Html(b"runs")
-    } else if code == b"staff-judge".as_slice() {
-        Html(b"judges")
-    } else {
-        Text(code)
+    match code {
+        "competitor" => Html(b"competes"),
+        "staff-scrambler" => Html(b"scrambles"),
+        "staff-runner" => Html(b"runs"),
+        "staff-judge" => Html(b"judges"),
+        "staff-dataentry" => Html(b"enters results"),
+        "staff-announcer" => Html(b"announces"),
+        "staff-delegate" => Html(b"is a delegate"),
+        "staff-stagelead" => Html(b"leads the stage"),
+        "staff-core" => Html(b"is on the core staff"),
+        "staff-setup" => Html(b"sets up"),
+        "staff-other" => Html(b"helps"),
+        _ => Text(code.as_bytes()),
     }
 }
 
@@ -102,7 +105,7 @@ fn push_spot(out: &mut Vec<u8>, spot: &Spot<'_>, assignment: &Value) -> Result<(
         end,
         end,
         Html(&words),
-        do_piece(text_under(assignment, "assignmentCode").as_bytes()),
+        do_piece(text_under(assignment, "assignmentCode")),
         Text(given_name(spot.room).as_bytes()),
         station_piece(assignment),
     ];
@@ -114,7 +117,7 @@ fn push_lost(out: &mut Vec<u8>, assignment: &Value) -> Result<(), NoMemory>
     ensures { OnOk result (out.new.items ≡ out.old.items ++ lost_line (view assignment.now)) }
 {
     let pieces = [
-        do_piece(text_under(assignment, "assignmentCode").as_bytes()),
+        do_piece(text_under(assignment, "assignmentCode")),
         station_piece(assignment),
     ];
     fill(out, LOST, &pieces)

@@ -5,4 +5,5 @@ use Rattle.schedule_views.proofs.schedule.lines.Given as goal
 
 abbrev pub invariant-loop-place : goal.invariant-loop-place
 invariant-loop-place l =
-    l.text.items ≡ flat_map (activity_at (map view l.all)) (take l.place-index l.places)
+    l.text.items
+    ≡ flat_map (activity_at l.meet.accepted (map view l.all)) (take l.place-index l.places)

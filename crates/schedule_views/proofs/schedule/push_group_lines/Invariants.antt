@@ -7,4 +7,5 @@ abbrev pub invariant-loop-place : goal.invariant-loop-place
 invariant-loop-place l =
     l.out.items
     ≡ l.initial.out.items
-    ++ flat_map (group_at (view l.round) (map view l.children)) (take l.place-index l.places)
+    ++ flat_map (group_at l.meet.accepted (view l.round) (map view l.children))
+    (take l.place-index l.places)

@@ -7,4 +7,4 @@ abbrev pub invariant-loop-room : goal.invariant-loop-room
 invariant-loop-room l =
     l.out.items
     ≡ l.initial.out.items
-    ++ flat_map (room_table (view l.venue)) (map view (take l.room-index l.rooms))
+    ++ flat_map (room_table l.meet.accepted (view l.venue)) (map view (take l.room-index l.rooms))

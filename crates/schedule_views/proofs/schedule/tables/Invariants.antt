@@ -5,4 +5,4 @@ use Rattle.schedule_views.proofs.schedule.tables.Given as goal
 
 abbrev pub invariant-loop-venue : goal.invariant-loop-venue
 invariant-loop-venue l =
-    l.text.items ≡ flat_map venue_tables (map view (take l.venue-index l.venues))
+    l.text.items ≡ flat_map (venue_tables l.meet.accepted) (map view (take l.venue-index l.venues))
