@@ -164,6 +164,7 @@ const ENTERING_HEAD: &[u8] = b"\
 ";
 
 /// Adds the form that enters a competitor in an event.
+#[tactic(auto, unfolding(crate::specs::People::entering))]
 fn push_entering(out: &mut Vec<u8>, meet: &Meet, token: &[u8], form: FormId) -> Result<(), NoMemory>
     ensures { OnOk result (out.new.items
         ≡ out.old.items ++ entering meet.now.accepted token.now form) }

@@ -23,6 +23,7 @@ use table_views::{
 use texts::RoundId;
 
 /// Adds the beginning of a form for a competitor, whose number it carries unseen.
+#[tactic(auto, unfolding(crate::specs::Person::person_form))]
 fn push_person_form(
     out: &mut Vec<u8>,
     token: &[u8],
@@ -45,6 +46,7 @@ const RENAMING_HEAD: &[u8] = b"\
 ";
 
 /// Adds the form that gives a competitor another name, with the present one filled in.
+#[tactic(auto, unfolding(crate::specs::Person::renaming))]
 fn push_renaming(
     out: &mut Vec<u8>,
     token: &[u8],
@@ -179,6 +181,7 @@ has not taken a place yet takes the place.</p>
 ";
 
 /// Adds the form that withdraws a competitor from a round, with these buttons.
+#[tactic(auto, unfolding(crate::specs::Person::withdrawing))]
 fn push_withdrawing(
     out: &mut Vec<u8>,
     token: &[u8],
@@ -214,6 +217,7 @@ fn push_withdrawing_if(
 }
 
 /// Adds the forms of edition 4.
+#[tactic(auto, unfolding(crate::specs::Person::mending))]
 fn push_mending(
     out: &mut Vec<u8>,
     around: &PageContext<'_>,

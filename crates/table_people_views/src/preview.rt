@@ -131,6 +131,7 @@ fn push_text(out: &mut Vec<u8>, text: &[u8]) -> Result<(), NoMemory>
 }
 
 /// Adds a command that would be entered, with the name of whom it withdraws.
+#[tactic(auto, unfolding(crate::specs::Preview::entered_item))]
 fn push_entered_item(out: &mut Vec<u8>, meet: &Meet, text: &[u8]) -> Result<(), NoMemory>
     ensures { OnOk result (out.new.items
         ≡ out.old.items ++ entered_item meet.now.accepted text.now) }
@@ -254,6 +255,7 @@ fn push_told(out: &mut Vec<u8>, entered: usize, refused: usize) -> Result<(), No
 }
 
 /// Adds the section of commands of which this many would be entered, and this many refused.
+#[tactic(auto, unfolding(crate::specs::Preview::lists))]
 fn push_lists(
     out: &mut Vec<u8>,
     around: &PageContext<'_>,

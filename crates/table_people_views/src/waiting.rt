@@ -15,6 +15,7 @@ const START: &[u8] = b"\
 <p><a href=\"/card/";
 
 /// Adds what is said while the page waits.
+#[tactic(auto, unfolding(crate::specs::Waiting::waiting_section))]
 fn push_section(out: &mut Vec<u8>, round: RoundId) -> Result<(), NoMemory>
     ensures { OnOk result (out.new.items ≡ out.old.items ++ waiting_section round) }
 {

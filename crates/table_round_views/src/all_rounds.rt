@@ -106,6 +106,7 @@ const SECTION_END: &[u8] = b"\
 ";
 
 /// Adds the section of all rounds.
+#[tactic(auto, unfolding(crate::specs::Overview::section))]
 fn push_section(out: &mut Vec<u8>, meet: &Meet) -> Result<(), NoMemory>
     ensures { OnOk result (out.new.items ≡ out.old.items ++ section meet.now.accepted) }
 {

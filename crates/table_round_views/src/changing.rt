@@ -17,6 +17,7 @@ const SETTINGS_HEAD: &[u8] = b"\
 ";
 
 /// Adds the form that changes format, cutoff and limit, with what holds now chosen beforehand.
+#[tactic(auto, unfolding(crate::specs::Changing::settings_form))]
 fn push_settings_form(
     out: &mut Vec<u8>,
     token: &[u8],

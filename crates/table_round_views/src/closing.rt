@@ -69,6 +69,7 @@ const TIED_LIST: &[u8] = b"\
 ";
 
 /// Adds that these are tied at the border where this many could advance.
+#[tactic(auto, unfolding(crate::specs::Closing::tied_list))]
 fn push_tied_list(
     out: &mut Vec<u8>,
     meet: &Meet,
@@ -150,6 +151,7 @@ fn push_tie(
 const LIST_THROUGH: &[u8] = b"<h2>Who advances, as of now: $</h2>\n<ol>\n";
 
 /// Adds these as those who advance by a rule, of this many who could.
+#[tactic(auto, unfolding(crate::specs::Closing::list_through))]
 fn push_list_through(
     out: &mut Vec<u8>,
     meet: &Meet,
@@ -209,6 +211,7 @@ const CHANGE_HEAD: &[u8] = b"\
 ";
 
 /// Adds the form that changes who advances, with who does now chosen beforehand.
+#[tactic(auto, unfolding(crate::specs::Closing::change))]
 fn push_change(
     out: &mut Vec<u8>,
     token: &[u8],
@@ -263,6 +266,7 @@ fn push_close(
 }
 
 /// Adds the lists and the forms of a round that is open.
+#[tactic(auto, unfolding(crate::specs::Closing::open_round))]
 pub(crate) fn push_open_round(
     out: &mut Vec<u8>,
     around: &PageContext<'_>,

@@ -117,6 +117,7 @@ fn push_links(out: &mut Vec<u8>, meet: &Meet, event: Event, rounds: &[u8]) -> Re
 const ROW: &[u8] = b"<tr><th scope=\"row\">$</th>";
 
 /// Adds the row of an event.
+#[tactic(auto, unfolding(crate::specs::Rounds::row_of))]
 fn push_row(out: &mut Vec<u8>, meet: &Meet, event: Event) -> Result<(), NoMemory>
     ensures { OnOk result (out.new.items ≡ out.old.items ++ row_of meet.now.accepted event) }
 {
@@ -215,6 +216,7 @@ fn push_closed(
 }
 
 /// Adds the forms of a round that is open.
+#[tactic(auto, unfolding(crate::specs::Rounds::running_forms))]
 fn push_running(
     out: &mut Vec<u8>,
     around: &PageContext<'_>,

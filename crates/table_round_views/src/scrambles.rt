@@ -76,6 +76,7 @@ fn push_rescrambling(
 const STANDING: &[u8] = b"<p>Scramble $: <code>$</code></p>\n";
 
 /// Adds the scramble that an attempt has, and the form that changes it.
+#[tactic(auto, unfolding(crate::specs::Scrambles::standing_scramble))]
 fn push_standing(
     out: &mut Vec<u8>,
     mends: bool,

@@ -21,14 +21,14 @@ use Rattle.texts.specs.{declared.command.CardEntry.CardEntry, Fields.enters_late
 use Rattle.table_service.specs.declared.plan.{Effect.Effect, RequestPlan.RequestPlan}
 use Rattle.table_service.specs.declared.plan.{Problem.Problem, PageReply.PageReply}
 use Rattle.table_service.specs.declared.{plan.PageStatus.PageStatus, reading.Resource.Resource}
-use Rattle.table_service.specs.Answering.{PlansAgainCard, PlansAgainId, PlansAgainItem, again_entry}
-use Rattle.table_service.specs.Answering.{PlansAgainEntry, PlansAnsweredId, PlansAnsweredItem}
-use Rattle.table_service.specs.Answering.{PlansAgainIf, PlansLeaving, card_over, id_of}
+use Rattle.table_service.specs.Answering.{PlansAgain, PlansAgainCard, PlansAgainItem, PlansAnswered}
+use Rattle.table_service.specs.Answering.{PlansItem, PlansItemIf, PlansLeaving, PlansOver}
+use Rattle.table_service.specs.Answering.{again_entry, card_over, item_of, less_words}
 use Rattle.table_service.specs.{Asked.asked_at, Imports.content_of, Taking.sent_as}
 use Rattle.table_service.specs.Checks.{all_doubts, doubts, file_doubts}
 use Rattle.table_service.specs.{Gate.has_token, Gate.is_own, Lists.would_be_done, Sent.PlansFormAt}
 use Rattle.table_service.specs.Imports.{PlansBody, PlansCarried, PlansPartsIf, boundary_in}
-use Rattle.table_service.specs.Laws.{AsksAgain, AsksBack, AsksFor, AsksForCard, IsForm}
+use Rattle.table_service.specs.Laws.{AsksAgain, AsksBack, AsksFor, AsksForCard, AsksOver, IsForm}
 use Rattle.table_service.specs.Lists.{LooksAt, PlansAsked, PlansLines, PlansListOf, is_known}
 use Rattle.table_service.specs.Plans.{HoldsCard, PlansCardAs, PlansCardEntry, PlansCardIf}
 use Rattle.table_service.specs.Plans.{PlansCommand, PlansFit, PlansForm, PlansSpelled, ShowsView}
@@ -39,8 +39,8 @@ use Rattle.table_service.specs.Replying.{GoesTo, ShowsAs, refuses, shows}
 use Rattle.table_service.specs.Requests.{is_post, is_read, path_of, query_of, sent_pairs}
 use Rattle.table_service.specs.Sent.{PlansAt, PlansAtAnswers, PlansAtLast, PlansAtLines, PlansBy}
 use Rattle.table_service.specs.Services.{IsAround, Plans, PlansIf, PlansWith, ServiceOf}
-use Rattle.table_service.specs.Undoing.{PlansUndoCard, PlansUndoEntry, PlansUndoId, PlansUndoIf}
-use Rattle.table_service.specs.Undoing.{PlansUndoItem, may_undo, undone_entry}
+use Rattle.table_service.specs.Undoing.{PlansUndo, PlansUndoCard, PlansUndoItem, may_undo}
+use Rattle.table_service.specs.Undoing.{undone_entry, untyped_words}
 use Rattle.table_service.specs.Taking.{AreTaken, PlansOther, PlansRoom, both_or, has_room, is_sent}
 use Rattle.table_service.specs.Taking.{last_id, other_by, other_in, place_after, place_with}
 use Rattle.wcif.specs.Lines as printed
@@ -110,10 +110,6 @@ module _ (More : Type 0) (log : List Entry) (q : ItemsOf) (path : List ℕ) (pai
 
   ids : plan.effect ≡ effect.Ids → Found
   ids is = subst (λ (e : Effect). FoundBy More log q path pairs remark plan.reply e) (sym is) tt
-
-  answered : (of : ℕ) → plan.effect ≡ effect.Answer of → Found
-  answered of is =
-      subst (λ (e : Effect). FoundBy More log q path pairs remark plan.reply e) (sym is) tt
 
   page : (status : PageStatus) (is : Option (List ℕ)) → ShowsAs status is plan → Found
   page status None is = refused problem.NotFound is
@@ -337,168 +333,146 @@ module _ (More : Type 0) (log : List Entry) (q : ItemsOf) (path : List ℕ) (pai
     list at None is plans = refused problem.BadForm plans
     list at (Some id) is plans = lines_asked at id is plans
 
+    -- ---- an item that a form names, and a card that stands for it
+
+    -- an item that stays as it is
+    leaving : (item : Item) (what : Effect) → PlansLeaving item what plan
+        → FoundBy More log q path pairs remark plan.reply what → Found
+    leaving item what plans found =
+        subst (λ (e : Effect). FoundBy More log q path pairs remark plan.reply e) (sym plans.1) found
+
+    module _ (may : ℕ → Bool) (Does : ℕ → Item → RequestPlan → Type 0)
+        (does : (it : ℕ × Item) → item_of q pairs ≡ Some it → may it.0 ≡ true
+        → Does it.0 it.1 plan → Found) where
+      item_if : (it : ℕ × Item) → item_of q pairs ≡ Some it → (b : Bool) → may it.0 ≡ b
+          → PlansItemIf b Does it.0 it.1 plan → Found
+      item_if it named false so plans = leaving it.1 effect.Nothing plans tt
+      item_if it named true so plans = does it named so plans
+
+      item : (it : Option (ℕ × Item)) → item_of q pairs ≡ it → PlansItem may Does it plan → Found
+      item None named plans = refused problem.BadForm plans
+      item (Some it) named plans = item_if it named (may it.0) refl plans
+
+    module _ (may : ℕ → Bool) (IsMade : ℕ → CardEntry → Entry → Type 0)
+        (asked : (e : Entry) → AsksOver may IsMade q pairs (e ∷ [])
+        → AsksFor log q path pairs remark (e ∷ [])) (it : ℕ × Item)
+        (named : item_of q pairs ≡ Some it) (so : may it.0 ≡ true) where
+      over : (why : List ℕ) (has : Bool) (card : CardEntry)
+          → card_in it.1.entry.text ≡ Some card → (id : ℕ) (entry : Option Entry)
+          → ((e : Entry) → entry ≡ Some e → IsMade id card e)
+          → PlansOver why has around it.0 card.id entry plan → Found
+      over why has card typed id None made plans = ids plans.1
+      over why false card typed id (Some entry) made plans = refused problem.Busy plans
+      over why true card typed id (Some entry) made plans =
+          subst (λ (e : Effect). FoundBy More log q path pairs remark plan.reply e) (sym plans.1) (
+            more,
+            asked entry record {
+              it = it;
+              named = named;
+              may = so;
+              card = card;
+              typed = typed;
+              id = id;
+              entry = entry;
+              is = made entry refl;
+              alone = refl;
+            },
+            (place_with (cards_place card.id) entry.id, plans.0),
+          )
+
     -- ---- what was typed, over what counts now
+
+    again_asked : path ≡ codes "/again" → (e : Entry)
+        → AsksAgain around.mirror.now q pairs around.remark.now (e ∷ [])
+        → AsksFor log q path pairs remark (e ∷ [])
+    again_asked at e asks =
+        inr (inr (inr (inl (
+          at,
+          by_log (λ (es : List Entry). AsksAgain es q pairs remark (e ∷ []))
+              (subst (λ (r : List ℕ). AsksAgain around.mirror.now q pairs r (e ∷ [])) says asks),
+        ))))
 
     entry_of : (enters : Bool) (id : ℕ) (card : CardEntry) (was : List Value) (entry : Entry)
         → again_entry enters id card around.remark.now was ≡ Some entry
-        → card_entry id (card_over card was) remark ≡ Some entry
+        → card_entry id (card_over card was) around.remark.now ≡ Some entry
     entry_of false id card was entry is = absurd (cc)
-    entry_of true id card was entry is =
-        subst (λ (r : List ℕ). card_entry id (card_over card was) r ≡ Some entry) says is
+    entry_of true id card was entry is = is
 
-    module _ (at : path ≡ codes "/again") (of : ℕ) (named : id_of pairs ≡ Some of) where
-      again_as : (entry : Entry) → AsksAgain log q pairs remark (entry ∷ []) → GoesOn plan.reply
-          → plan.effect ≡ effect.Again entry of → Found
-      again_as entry asks on is =
-          subst (λ (e : Effect). FoundBy More log q path pairs remark plan.reply e) (sym is)
-          (more, inr (inr (inr (inl (at, asks)))), on)
+    again_card : path ≡ codes "/again" → (it : ℕ × Item) → item_of q pairs ≡ Some it
+        → may_answer around.mirror.now q it.0 ≡ true → (was : Option (List Value))
+        → was_of (value_of (codes "was") pairs) ≡ was → (card : Option CardEntry)
+        → card_in it.1.entry.text ≡ card → PlansAgainCard around q it.0 was card plan → Found
+    again_card at it named so None shows card typed plans = refused problem.BadForm plans
+    again_card at it named so (Some was) shows None typed plans = refused problem.BadForm plans
+    again_card at it named so (Some was) shows (Some card) typed plans =
+        let enters = enters_later (length was) card.now in
+        let id = get_or around.ids.now 0 0 in
+        over (may_answer around.mirror.now q)
+        (λ id card entry. (was : List Value) × (was_of (value_of (codes "was") pairs) ≡ Some was)
+        × (card_entry id (card_over card was) around.remark.now ≡ Some entry)) (again_asked at) it
+        named so less_words (has_room q 1) card typed id
+        (again_entry enters id card around.remark.now was)
+        (λ e is. (was, shows, entry_of enters id card was e is)) plans
 
-      module _ (item : Item) (known : item_in q of ≡ Some item)
-          (may : may_answer around.mirror.now q of ≡ true) where
-        again_entered : (card : CardEntry) → card_in item.entry.text ≡ Some card
-            → (was : List Value) → was_of (value_of (codes "was") pairs) ≡ Some was
-            → (enters : Bool) (id : ℕ) (has : Bool) (entry : Option Entry)
-            → again_entry enters id card around.remark.now was ≡ entry
-            → PlansAgainEntry has around q of card entry plan → Found
-        again_entered card typed was shows enters id has None is plans = ids plans.1
-        again_entered card typed was shows enters id false (Some entry) is plans =
-            refused problem.Busy plans
-        again_entered card typed was shows enters id true (Some entry) is plans =
-            again_as entry
-            record {
-              of = of;
-              named = named;
-              card = card;
-              item = item;
-              known = known;
-              typed = typed;
-              may = by_log (λ (es : List Entry). may_answer es q of ≡ true) may;
-              was = was;
-              shows = shows;
-              entry = entry;
-              id = id;
-              is = entry_of enters id card was entry is;
-              alone = refl;
-            } (place_with (cards_place card.id) entry.id, plans.0) plans.1
-
-        again_card : (was : Option (List Value)) → was_of (value_of (codes "was") pairs) ≡ was
-            → (card : Option CardEntry) → card_in item.entry.text ≡ card
-            → PlansAgainCard around q of was card plan → Found
-        again_card None shows card typed plans = refused problem.BadForm plans
-        again_card (Some was) shows None typed plans = refused problem.BadForm plans
-        again_card (Some was) shows (Some card) typed plans =
-            again_entered card typed was shows (enters_later (length was) card.now)
-            (get_or around.ids.now 0 0) (has_room q 1)
-            (again_entry (enters_later (length was) card.now) (get_or around.ids.now 0 0) card
-            around.remark.now was) refl plans
-
-      again_if : (item : Item) → item_in q of ≡ Some item → (may : Bool)
-          → may_answer around.mirror.now q of ≡ may
-          → PlansAgainIf may around q pairs of item plan → Found
-      again_if item known false may plans = nothing plans.1
-      again_if item known true may plans =
-          again_card item known may (was_of (value_of (codes "was") pairs)) refl
-          (card_in item.entry.text) refl plans
-
-      again_item : (item : Option Item) → item_in q of ≡ item
-          → PlansAgainItem around q pairs of item plan → Found
-      again_item None known plans = refused problem.BadForm plans
-      again_item (Some item) known plans =
-          again_if item known (may_answer around.mirror.now q of) refl plans
-
-    again : path ≡ codes "/again" → (of : Option ℕ) → id_of pairs ≡ of
-        → PlansAgainId around q pairs of plan → Found
-    again at None named plans = refused problem.BadForm plans
-    again at (Some of) named plans = again_item at of named (item_in q of) refl plans
+    again : path ≡ codes "/again" → PlansAgain around q pairs plan → Found
+    again at plans =
+        item (may_answer around.mirror.now q) (PlansAgainItem around q pairs)
+        (λ it named so planned.
+        again_card at it named so (was_of (value_of (codes "was") pairs)) refl
+        (card_in it.1.entry.text) refl planned) (item_of q pairs) refl plans
 
     -- ---- leaving it
 
-    leaving : (may : Bool) (of : ℕ) (item : Item) → PlansLeaving may of item plan → Found
-    leaving false of item plans = nothing plans.1
-    leaving true of item plans = answered of plans.1
-
-    left_item : (of : ℕ) (item : Option Item) → PlansAnsweredItem around q of item plan → Found
-    left_item of None plans = refused problem.BadForm plans
-    left_item of (Some item) plans = leaving (may_answer around.mirror.now q of) of item plans
-
-    left : (of : Option ℕ) → PlansAnsweredId around q of plan → Found
-    left None plans = refused problem.BadForm plans
-    left (Some of) plans = left_item of (item_in q of) plans
+    left : PlansAnswered around q pairs plan → Found
+    left plans =
+        item (may_answer around.mirror.now q)
+        (λ of item left. PlansLeaving item (effect.Answer of) left)
+        (λ it named so planned. leaving it.1 (effect.Answer it.0) planned tt) (item_of q pairs) refl
+        plans
 
     -- ---- taking a card back
 
-    module _ (at : path ≡ codes "/undo") (of : ℕ) (named : id_of pairs ≡ Some of) where
-      back_as : (entry : Entry) → AsksBack log q pairs remark (entry ∷ []) → GoesOn plan.reply
-          → plan.effect ≡ effect.Again entry of → Found
-      back_as entry asks on is =
-          subst (λ (e : Effect). FoundBy More log q path pairs remark plan.reply e) (sym is)
-          (more, inr (inr (inr (inr (at, asks)))), on)
+    back_asked : path ≡ codes "/undo" → (e : Entry)
+        → AsksBack around.mirror.now q pairs around.remark.now (e ∷ [])
+        → AsksFor log q path pairs remark (e ∷ [])
+    back_asked at e asks =
+        inr (inr (inr (inr (
+          at,
+          by_log (λ (es : List Entry). AsksBack es q pairs remark (e ∷ []))
+              (subst (λ (r : List ℕ). AsksBack around.mirror.now q pairs r (e ∷ [])) says asks),
+        ))))
 
-      module _ (item : Item) (known : item_in q of ≡ Some item)
-          (may : may_undo around.mirror.now q of ≡ true) where
-        back_entered : (card : CardEntry) → card_in item.entry.text ≡ Some card → (id : ℕ)
-            (has : Bool) (entry : Option Entry)
-            → undone_entry (accepted_in around.mirror.now) id card around.remark.now ≡ entry
-            → PlansUndoEntry has around of card.id entry plan → Found
-        back_entered card typed id has None is plans = ids plans.1
-        back_entered card typed id false (Some entry) is plans = refused problem.Busy plans
-        back_entered card typed id true (Some entry) is plans =
-            back_as entry
-            record {
-              of = of;
-              named = named;
-              card = card;
-              item = item;
-              known = known;
-              typed = typed;
-              may = by_log (λ (es : List Entry). may_undo es q of ≡ true) may;
-              entry = entry;
-              id = id;
-              is = by_log
-                  (λ (es : List Entry).
-                  undone_entry (accepted_in es) id card remark ≡ Some entry) (subst (λ (r : List ℕ).
-                  undone_entry (accepted_in around.mirror.now) id card r ≡ Some entry) says is);
-              alone = refl;
-            } (place_with (cards_place card.id) entry.id, plans.0) plans.1
+    back_card : path ≡ codes "/undo" → (it : ℕ × Item) → item_of q pairs ≡ Some it
+        → may_undo around.mirror.now q it.0 ≡ true → (card : Option CardEntry)
+        → card_in it.1.entry.text ≡ card → PlansUndoCard around q it.0 card plan → Found
+    back_card at it named so None typed plans = refused problem.BadForm plans
+    back_card at it named so (Some card) typed plans =
+        let id = get_or around.ids.now 0 0 in
+        let accepted = accepted_in around.mirror.now in
+        over (may_undo around.mirror.now q)
+        (λ id card entry. undone_entry accepted id card around.remark.now ≡ Some entry)
+        (back_asked at) it named so untyped_words (has_room q 1) card typed id
+        (undone_entry accepted id card around.remark.now) (λ e is. is) plans
 
-        back_card : (card : Option CardEntry) → card_in item.entry.text ≡ card
-            → PlansUndoCard around q of card plan → Found
-        back_card None typed plans = refused problem.BadForm plans
-        back_card (Some card) typed plans =
-            back_entered card typed (get_or around.ids.now 0 0) (has_room q 1)
-            (undone_entry (accepted_in around.mirror.now) (get_or around.ids.now 0 0) card
-            around.remark.now) refl plans
-
-      back_if : (item : Item) → item_in q of ≡ Some item → (may : Bool)
-          → may_undo around.mirror.now q of ≡ may → PlansUndoIf may around q of item plan → Found
-      back_if item known false may plans = nothing plans.1
-      back_if item known true may plans =
-          back_card item known may (card_in item.entry.text) refl plans
-
-      back_item : (item : Option Item) → item_in q of ≡ item → PlansUndoItem around q of item plan
-          → Found
-      back_item None known plans = refused problem.BadForm plans
-      back_item (Some item) known plans =
-          back_if item known (may_undo around.mirror.now q of) refl plans
-
-    back : path ≡ codes "/undo" → (of : Option ℕ) → id_of pairs ≡ of
-        → PlansUndoId around q of plan → Found
-    back at None named plans = refused problem.BadForm plans
-    back at (Some of) named plans = back_item at of named (item_in q of) refl plans
+    back : path ≡ codes "/undo" → PlansUndo around q pairs plan → Found
+    back at plans =
+        item (may_undo around.mirror.now q) (PlansUndoItem around q)
+        (λ it named so planned. back_card at it named so (card_in it.1.entry.text) refl planned)
+        (item_of q pairs) refl plans
 
     -- ---- by the path
 
     sent_last : (leaves undoes : Bool) → bytes_eq path (codes "/undo") ≡ undoes
         → PlansAtLast around q pairs leaves undoes plan → Found
-    sent_last true undoes at plans = left (id_of pairs) plans
+    sent_last true undoes at plans = left plans
     sent_last false true at plans =
-        back ((bytes_eq-Decides path (codes "/undo")).0 at) (id_of pairs) refl plans
+        back ((bytes_eq-Decides path (codes "/undo")).0 at) plans
     sent_last false false at plans = refused problem.Method plans
 
     sent_answers : (takes : Bool) → bytes_eq path (codes "/again") ≡ takes
         → PlansAtAnswers around q path pairs takes plan → Found
     sent_answers true at plans =
-        again ((bytes_eq-Decides path (codes "/again")).0 at) (id_of pairs) refl plans
+        again ((bytes_eq-Decides path (codes "/again")).0 at) plans
     sent_answers false at plans =
         sent_last (bytes_eq path (codes "/answered")) (bytes_eq path (codes "/undo")) refl plans
 

@@ -1,6 +1,7 @@
 -- What holds of each answer of the score table (the project's own).
-use Rattle.std.specs.Prelude.{◌≡◌, ◌⊎◌, ℕ, ◌+◌, ◌++◌, ◌||◌, ◌∷◌, [], true, false, List, Some, Ok}
-use Rattle.std.specs.{Prelude.codes, Prelude.map, Prelude.take, List.AllByRecursion}
+use Rattle.std.specs.Prelude.{◌≡◌, ◌⊎◌, ℕ, ◌+◌, ◌++◌, ◌||◌, ◌∷◌, [], Bool, true, false, List}
+use Rattle.std.specs.{Prelude.Some, Prelude.Ok, Prelude.codes, Prelude.map, Prelude.take}
+use Rattle.std.specs.List.{AllByRecursion}
 use Rattle.acceptor.specs.declared.entry.Entry.{Entry}
 use Rattle.attempts.specs.declared.Value.{Value}
 use Rattle.http.specs.declared.request.Request.{Request}
@@ -14,13 +15,13 @@ use Rattle.command_lists.specs.Lists.{texts_in}
 use Rattle.commands.specs.Accepted.{are_values, card_values, round_by, scramble_of}
 use Rattle.learner.specs.Laws.{IsPrefix}
 use Rattle.outbox.specs.{declared.item.Item.Item, Outboxes.may_answer, States.state_of}
-use Rattle.outbox.specs.Items.{ItemsOf, item_in}
+use Rattle.outbox.specs.Items.{ItemsOf}
 use Rattle.rounds.specs.Tables.{Table}
 use Rattle.table_views.specs.{Editions.is_latest, Logs.accepted_in, Standing.values_of}
 use Rattle.texts.specs.{Fields.was_of, declared.command.Command.TheVariants.Card}
 use Rattle.texts.specs.declared.command.{CardEntry.CardEntry, Command.Command, Settings.Settings}
 use Rattle.table_service.specs.{Answering.card_over, Remarks.remark_of, Remarks.remark_under}
-use Rattle.table_service.specs.{Answering.id_of, Replies.IsProblem, Replies.security}
+use Rattle.table_service.specs.{Answering.item_of, Replies.IsProblem, Replies.security}
 use Rattle.table_service.specs.{Checks.doubts, Disks.IsSynced, Plans.are_confirmed, Taking.is_sent}
 use Rattle.table_service.specs.{Gate.has_token, Gate.is_own, Lists.is_known, Lists.would_be_done}
 use Rattle.table_service.specs.Requests.{is_post, path_of, sent_pairs}
@@ -75,38 +76,33 @@ pub record AsksForAll (log : List Entry) (q : ItemsOf) (pairs : List Pair) (rema
   pub done : (is_known q id || would_be_done log id texts) ≡ true
   pub are : entries ≡ command_entries id (map (noted remark) texts)
 
--- what was typed into a card that this log does not save, over what the form's page showed that
--- counts
-pub record AsksAgain (log : List Entry) (q : ItemsOf) (pairs : List Pair) (remark : List ℕ)
-    (entries : List Entry) : Type 0 where
-  pub of : ℕ
-  pub named : id_of pairs ≡ Some of
+-- A form names an item that spells a card, and asks for the entry of another card, made in this way
+-- of that one under an id; and that may be done with the item.
+pub record AsksOver (lets : ℕ → Bool) (IsMade : ℕ → CardEntry → Entry → Type 0) (q : ItemsOf)
+    (pairs : List Pair) (entries : List Entry) : Type 0 where
+  pub it : ℕ × Item
+  pub named : item_of q pairs ≡ Some it
+  pub may : lets it.0 ≡ true
   pub card : CardEntry
-  pub item : Item
-  pub known : item_in q of ≡ Some item
-  pub typed : card_in item.entry.text ≡ Some card
-  pub may : may_answer log q of ≡ true
-  pub was : List Value
-  pub shows : was_of (value_of (codes "was") pairs) ≡ Some was
-  pub entry : Entry
+  pub typed : card_in it.1.entry.text ≡ Some card
   pub id : ℕ
-  pub is : card_entry id (card_over card was) remark ≡ Some entry
+  pub entry : Entry
+  pub is : IsMade id card entry
   pub alone : entries ≡ entry ∷ []
 
+-- what was typed into a card that this log does not save, over what the form's page showed that
+-- counts
+abbrev pub AsksAgain : List Entry → ItemsOf → List Pair → List ℕ → List Entry → Type 0
+AsksAgain log q pairs remark entries =
+    AsksOver (may_answer log q)
+    (λ id card entry. (was : List Value) × (was_of (value_of (codes "was") pairs) ≡ Some was)
+    × (card_entry id (card_over card was) remark ≡ Some entry)) q pairs entries
+
 -- what counted before a card that this log saves, over what that card left, by what the log accepts
-pub record AsksBack (log : List Entry) (q : ItemsOf) (pairs : List Pair) (remark : List ℕ)
-    (entries : List Entry) : Type 0 where
-  pub of : ℕ
-  pub named : id_of pairs ≡ Some of
-  pub card : CardEntry
-  pub item : Item
-  pub known : item_in q of ≡ Some item
-  pub typed : card_in item.entry.text ≡ Some card
-  pub may : may_undo log q of ≡ true
-  pub entry : Entry
-  pub id : ℕ
-  pub is : undone_entry (accepted_in log) id card remark ≡ Some entry
-  pub alone : entries ≡ entry ∷ []
+abbrev pub AsksBack : List Entry → ItemsOf → List Pair → List ℕ → List Entry → Type 0
+AsksBack log q pairs remark entries =
+    AsksOver (may_undo log q)
+    (λ id card entry. undone_entry (accepted_in log) id card remark ≡ Some entry) q pairs entries
 
 -- the entries that the pairs at a path ask for, where the log is this one, with this remark; in a
 -- hall of an earlier edition commands have none

@@ -8,20 +8,18 @@ use Rattle.card_forms.specs.{declared.pairs.Pair.Pair, Entries.card_entry, Entri
 use Rattle.commands.specs.Accepted.{card_values, round_by, scramble_of}
 use Rattle.formats.specs.Events.{unit_of}
 use Rattle.outbox.specs.declared.{item.Item.Item, state.ItemState.ItemState}
-use Rattle.outbox.specs.{Items.ItemsOf, Items.is_answered, Items.item_in, Outboxes.state_in}
+use Rattle.outbox.specs.{Items.ItemsOf, Items.is_answered, Outboxes.state_in}
 use Rattle.table_views.specs.{declared.around.PageContext.PageContext, Logs.accepted_in}
 use Rattle.texts.specs.declared.command.{CardEntry.CardEntry, Command.Command, Entered.Entered}
-use Rattle.texts.specs.declared.command.{RoundId.RoundId, Settings.Settings}
+use Rattle.texts.specs.declared.command.Settings.{Settings}
 use Rattle.texts.specs.Fields.{all_of, card_entry as over}
 use Rattle.table_service.specs.{declared.plan.RequestPlan.RequestPlan, Checks.is_left}
-use Rattle.table_service.specs.Answering.{id_of, place_of}
-use Rattle.table_service.specs.{Plans.RefusesWith, Plans.cards_place, Replying.Sends}
-use Rattle.table_service.specs.{Replying.refuses, Taking.has_room, Taking.place_with}
+use Rattle.table_service.specs.Answering.{PlansItem, PlansOver, item_of}
+use Rattle.table_service.specs.{Replying.refuses, Taking.has_room}
 use Rattle.attempts.specs.declared.Unit.TheVariants as measure
 use Rattle.attempts.specs.declared.Value.TheVariants as value
 use Rattle.outbox.specs.declared.state.ItemState.TheVariants as state
 use Rattle.texts.specs.declared.command.Entered.TheVariants as entered
-use Rattle.table_service.specs.declared.plan.Effect.TheVariants as effect
 use Rattle.table_service.specs.declared.plan.Problem.TheVariants as problem
 
 -- ---- what is to count again
@@ -97,36 +95,19 @@ may_undo log list id = not (is_answered list id) && is_saved (state_in log list 
 abbrev pub untyped_words : List ℕ
 untyped_words = codes "what was there before cannot be entered: open the card and type it"
 
-abbrev pub PlansUndoEntry : Bool → PageContext → ℕ → RoundId → Option Entry → RequestPlan → Type 0
-PlansUndoEntry room around of id None plan =
-    RefusesWith around (cards_place id) untyped_words plan
-PlansUndoEntry false around of id (Some entry) plan = plan ≡ refuses problem.Busy
-PlansUndoEntry true around of id (Some entry) plan =
-    Sends (place_with (cards_place id) entry.id) (effect.Again entry of) plan
-
 abbrev pub PlansUndoCard : PageContext → ItemsOf → ℕ → Option CardEntry → RequestPlan → Type 0
 PlansUndoCard around q of None plan = plan ≡ refuses problem.BadForm
 PlansUndoCard around q of (Some card) plan =
-    PlansUndoEntry (has_room q 1) around of card.id
+    PlansOver untyped_words (has_room q 1) around of card.id
     (undone_entry (accepted_in around.mirror.now) (get_or around.ids.now 0 0) card
     around.remark.now) plan
 
-abbrev pub PlansUndoIf : Bool → PageContext → ItemsOf → ℕ → Item → RequestPlan → Type 0
-PlansUndoIf false around q of item plan =
-    Sends (place_of (card_in item.entry.text)) effect.Nothing plan
-PlansUndoIf true around q of item plan =
+abbrev pub PlansUndoItem : PageContext → ItemsOf → ℕ → Item → RequestPlan → Type 0
+PlansUndoItem around q of item plan =
     PlansUndoCard around q of (card_in item.entry.text) plan
 
-abbrev pub PlansUndoItem : PageContext → ItemsOf → ℕ → Option Item → RequestPlan → Type 0
-PlansUndoItem around q of None plan = plan ≡ refuses problem.BadForm
-PlansUndoItem around q of (Some item) plan =
-    PlansUndoIf (may_undo around.mirror.now q of) around q of item plan
-
-abbrev pub PlansUndoId : PageContext → ItemsOf → Option ℕ → RequestPlan → Type 0
-PlansUndoId around q None plan = plan ≡ refuses problem.BadForm
-PlansUndoId around q (Some of) plan = PlansUndoItem around q of (item_in q of) plan
-
 -- a card that is saved, and that nobody has answered, is taken back by a new one, and counts as
--- answered; any other item stays as it is
+-- answered
 abbrev pub PlansUndo : PageContext → ItemsOf → List Pair → RequestPlan → Type 0
-PlansUndo around q pairs plan = PlansUndoId around q (id_of pairs) plan
+PlansUndo around q pairs plan =
+    PlansItem (may_undo around.mirror.now q) (PlansUndoItem around q) (item_of q pairs) plan

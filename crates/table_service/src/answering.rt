@@ -1,24 +1,24 @@
 //! What a scoretaker answers to items that were not saved.
 
-ghost use Rattle.std.specs.Prelude.{◌≡◌, IfOk, Some, length, true};
+ghost use Rattle.std.specs.Prelude.{◌≡◌, IfOk, length, option_map};
 ghost use Rattle.std.specs.Option.{option_copied};
 ghost use Rattle.outbox.specs.Outboxes.{may_answer};
 ghost use Rattle.texts.specs.Fields.{enters_later};
-ghost use Rattle.table_service.specs.Answering.{PlansAgain, PlansLeaving, again_entry, place_of};
-ghost use Rattle.table_service.specs.Answering.{PlansAgainCard, PlansAgainIf, PlansAnswered, id_of};
+ghost use Rattle.table_service.specs.Answering.{PlansAgain, PlansAgainItem, PlansAnswered};
+ghost use Rattle.table_service.specs.Answering.{PlansLeaving, PlansOver, again_entry, item_of};
+ghost use Rattle.table_service.specs.{Answering.place_of, Taking.has_room};
 
 use crate::commanding::refuse;
 use crate::entering::cards_place;
 use crate::entries::{has_room, place_with};
-use crate::looking::first_id;
 use crate::plan::{Effect, Problem, RequestPlan};
 use acceptor::entry::Entry;
 use card_forms::{FormId, Pairs, card_entry, card_in};
 use mirror::Mirror;
 use outbox::{Item, ItemState, Outbox};
 use std::alloc::{AllocError, Global};
-use table_views::{PageContext, enters_later};
-use texts::{CardEntry, SeenValues, number_between, was_of};
+use table_views::{PageContext, enters_later, id_at};
+use texts::{CardEntry, RoundId, SeenValues, number_between, was_of};
 
 /// The greatest id of an entry, 2^63 - 1.
 const MOST_ID: u64 = 9_223_372_036_854_775_807;
@@ -26,11 +26,13 @@ const MOST_ID: u64 = 9_223_372_036_854_775_807;
 /// What is said where less counts than a card lets stay.
 const LESS: &[u8] = b"this card keeps more attempts than are on record: open the card and type it";
 
-/// The id of an item.
-pub(crate) fn id_of(pairs: &Pairs) -> Option<u64>
-    ensures { result ≡ id_of pairs.now }
+/// The item that a form names by its id, which comes first.
+pub(crate) fn item_of<'a>(outbox: &'a Outbox, pairs: &Pairs) -> Option<(u64, &'a Item)>
+    ensures { option_map (λ it. (it.0, it.1.now)) result ≡ item_of outbox.now.list pairs.now }
 {
-    number_between(1, MOST_ID, pairs.value("id"))
+    let of = number_between(1, MOST_ID, pairs.value("id"))?;
+    let item = outbox.find(of)?;
+    Some((of, item))
 }
 
 /// Whether the log says what became of the item of an id, and no scoretaker has answered it.
@@ -56,22 +58,42 @@ fn place_of(alloc: Global, card: Option<&CardEntry>) -> Result<Vec<u8>, AllocErr
     }
 }
 
-/// What is to be done for an item that is left as it is, which may be answered or not.
+/// What is to be done for an item that stays as it is, with this effect.
 pub(crate) fn plan_leaving(
     alloc: Global,
     item: &Item,
-    of: u64,
-    may: bool,
+    effect: Effect,
 ) -> Result<RequestPlan, AllocError>
-    ensures { IfOk result (PlansLeaving may of item.now) }
+    ensures { IfOk result (PlansLeaving item.now effect) }
 {
     let card = card_in(alloc, item.entry.text())?;
     let place = place_of(alloc, card.as_ref())?;
-    if may {
-        Ok(RequestPlan::see(place, Effect::Answer { of }))
-    } else {
-        Ok(RequestPlan::see(place, Effect::Nothing))
+    Ok(RequestPlan::see(place, effect))
+}
+
+/// What is to be done for a card of this round that stands for an item; it says why, where the card
+/// has no entry.
+pub(crate) fn plan_over(
+    alloc: Global,
+    outbox: &Outbox,
+    around: &PageContext<'_>,
+    of: u64,
+    id: RoundId,
+    entry: Option<Entry>,
+    why: &[u8],
+) -> Result<RequestPlan, AllocError>
+    ensures { IfOk result
+        (PlansOver why.now (has_room outbox.now.list 1) around.entry.now of id entry) }
+{
+    let place = cards_place(alloc, id)?;
+    let Some(entry) = entry else {
+        return refuse(alloc, around, &place, why);
+    };
+    if !has_room(outbox, 1) {
+        return Ok(RequestPlan::problem(Problem::Busy));
     }
+    let after = place_with(alloc, &place, entry.id())?;
+    Ok(RequestPlan::see(after, Effect::Again { entry, of }))
 }
 
 /// What is to be done for the form that leaves an item as it is.
@@ -83,12 +105,12 @@ pub(crate) fn plan_answered(
 ) -> Result<RequestPlan, AllocError>
     ensures { IfOk result (PlansAnswered around.entry.now outbox.now.list pairs.now) }
 {
-    let Some(of) = id_of(pairs) else {
-        return Ok(RequestPlan::problem(Problem::BadForm));
-    };
-    match outbox.find(of) {
-        Some(item) => plan_leaving(alloc, item, of, may_answer(outbox, around.mirror, of)),
+    match item_of(outbox, pairs) {
         None => Ok(RequestPlan::problem(Problem::BadForm)),
+        Some((of, item)) if may_answer(outbox, around.mirror, of) => {
+            plan_leaving(alloc, item, Effect::Answer { of })
+        }
+        Some((_of, item)) => plan_leaving(alloc, item, Effect::Nothing),
     }
 }
 
@@ -122,31 +144,8 @@ fn again_entry(
     card_entry(alloc, id, again, remark)
 }
 
-/// What is to be done for a card over what its page showed that counts now.
-fn plan_again_card(
-    alloc: Global,
-    outbox: &Outbox,
-    around: &PageContext<'_>,
-    of: u64,
-    card: CardEntry,
-    was: SeenValues,
-) -> Result<RequestPlan, AllocError>
-    ensures { IfOk result (PlansAgainCard around.entry.now outbox.now.list of (Some was)
-        (Some card)) }
-{
-    let place = cards_place(alloc, card.id)?;
-    let id = first_id(around.ids);
-    let Some(entry) = again_entry(alloc, id, card, around.remark, was)? else {
-        return refuse(alloc, around, &place, LESS);
-    };
-    if !has_room(outbox, 1) {
-        return Ok(RequestPlan::problem(Problem::Busy));
-    }
-    let after = place_with(alloc, &place, entry.id())?;
-    Ok(RequestPlan::see(after, Effect::Again { entry, of }))
-}
-
-/// What is to be done for an item that may be answered, of which a card is to be entered.
+/// What is to be done for an item that may be answered, of which a card is to be entered over what
+/// its page showed that counts now.
 fn plan_again_item(
     alloc: Global,
     outbox: &Outbox,
@@ -155,16 +154,17 @@ fn plan_again_item(
     of: u64,
     item: &Item,
 ) -> Result<RequestPlan, AllocError>
-    ensures { IfOk result (PlansAgainIf true around.entry.now outbox.now.list pairs.now of
-        item.now) }
+    ensures { IfOk result (PlansAgainItem around.entry.now outbox.now.list pairs.now of item.now) }
 {
     let Some(was) = was_of(alloc, pairs.value("was"))? else {
         return Ok(RequestPlan::problem(Problem::BadForm));
     };
-    match card_in(alloc, item.entry.text())? {
-        Some(card) => plan_again_card(alloc, outbox, around, of, card, was),
-        None => Ok(RequestPlan::problem(Problem::BadForm)),
-    }
+    let Some(card) = card_in(alloc, item.entry.text())? else {
+        return Ok(RequestPlan::problem(Problem::BadForm));
+    };
+    let round = card.id;
+    let entry = again_entry(alloc, id_at(around.ids, 0), card, around.remark, was)?;
+    plan_over(alloc, outbox, around, of, round, entry, LESS)
 }
 
 /// What is to be done for the form that enters what was typed over what counts now.
@@ -176,14 +176,11 @@ pub(crate) fn plan_again(
 ) -> Result<RequestPlan, AllocError>
     ensures { IfOk result (PlansAgain around.entry.now outbox.now.list pairs.now) }
 {
-    let Some(of) = id_of(pairs) else {
-        return Ok(RequestPlan::problem(Problem::BadForm));
-    };
-    match outbox.find(of) {
+    match item_of(outbox, pairs) {
         None => Ok(RequestPlan::problem(Problem::BadForm)),
-        Some(item) if may_answer(outbox, around.mirror, of) => {
+        Some((of, item)) if may_answer(outbox, around.mirror, of) => {
             plan_again_item(alloc, outbox, around, pairs, of, item)
         }
-        Some(item) => plan_leaving(alloc, item, of, false),
+        Some((_of, item)) => plan_leaving(alloc, item, Effect::Nothing),
     }
 }

@@ -3,19 +3,19 @@
 ghost use Rattle.std.specs.Prelude.{◌≡◌, IfOk, Ok, Some};
 ghost use Rattle.std.specs.Option.{option_copied};
 ghost use Rattle.card_forms.specs.Readings.{IsReadAs};
-ghost use Rattle.table_service.specs.Plans.{HoldsCard, PlansCard, PlansCardAs, PlansCardEntry};
-ghost use Rattle.table_service.specs.Plans.{PlansForm, PlansNoted, PlansReadCard, PlansSpelled};
+ghost use Rattle.table_service.specs.Plans.{HoldsCard, PlansCard, PlansForm, PlansReadCard};
+ghost use Rattle.table_service.specs.Plans.{PlansSpelled};
 ghost use Rattle.table_service.specs.Plans.{are_confirmed, card_place, cards_place, has_word};
 ghost use Rattle.table_service.specs.{Plans.is_confirmed, Plans.is_entered, Taking.IsFitCard};
 
 use crate::cards::card;
 use crate::checks::{all_doubts_of, only, unread};
 use crate::commanding::refuse;
-use crate::entries::{fit_card, is_sent, place_with, plan_entries};
+use crate::entries::{is_sent, list_of, place_with, plan_entries};
 use crate::plan::{Effect, PageStatus, Problem, RequestPlan};
 use acceptor::entry::Entry;
 use card_forms::{
-    CardFault, CardForm, CardFormFault, CardReading, Pairs, card_entry, card_form, card_of,
+    CardFault, CardForm, CardFormFault, CardReading, Pairs, card_entry, card_form, card_in, card_of,
 };
 use competition_file::CompetitionFile;
 use itoa::Buffer;
@@ -108,45 +108,6 @@ fn hold(
     }
 }
 
-/// What is to be done for the entry of a card: it is taken, unless something is to be confirmed.
-fn plan_entry(
-    alloc: Global,
-    outbox: &Outbox,
-    around: &PageContext<'_>,
-    form: &CardForm,
-    notes: &[CardNote],
-    entry: Entry,
-    enters: bool,
-) -> Result<RequestPlan, AllocError>
-    ensures { IfOk result
-        (PlansCardEntry outbox.now.list around.entry.now form.now notes.now entry enters) }
-{
-    if !enters {
-        return hold(alloc, outbox, around, form, notes, PageStatus::Asked);
-    }
-    let cards = cards_place(alloc, form.round)?;
-    let mut entries = Vec::new(alloc);
-    entries.push(entry)?;
-    plan_entries(alloc, outbox, around, cards, entries)
-}
-
-/// What is to be done for an entry that spells a card of which these notes are to be confirmed.
-fn plan_noted(
-    alloc: Global,
-    outbox: &Outbox,
-    around: &PageContext<'_>,
-    form: &CardForm,
-    sure: &[u8],
-    entry: Entry,
-    notes: &[CardNote],
-) -> Result<RequestPlan, AllocError>
-    ensures { IfOk result
-        (PlansNoted outbox.now.list around.entry.now form.now sure.now entry notes.now) }
-{
-    let enters = is_entered(alloc, outbox, entry.id(), sure, notes)?;
-    plan_entry(alloc, outbox, around, form, notes, entry, enters)
-}
-
 /// What is to be done for an entry that spells this card. A card that was sent already, with
 /// whatever remark, is what it was; of another one what is to be confirmed, by the log and by the
 /// competition's file, is asked first.
@@ -169,26 +130,12 @@ fn plan_fit(
         return Ok(RequestPlan::see(place, Effect::Nothing));
     }
     let notes = all_doubts_of(alloc, card, around.mirror.meet(), competition)?;
-    plan_noted(alloc, outbox, around, form, sure, entry, &notes)
-}
-
-/// What is to be done for a card that has this entry.
-fn plan_spelled(
-    alloc: Global,
-    outbox: &Outbox,
-    around: &PageContext<'_>,
-    competition: Option<&CompetitionFile>,
-    form: &CardForm,
-    sure: &[u8],
-    entry: Entry,
-) -> Result<RequestPlan, AllocError>
-    ensures { IfOk result (PlansCardAs outbox.now.list around.entry.now
-        (option_copied competition.entry) form.now sure.now (Some entry)) }
-{
-    match fit_card(alloc, entry.text())? {
-        Some(card) => plan_fit(alloc, outbox, around, competition, form, sure, entry, &card),
-        None => Ok(RequestPlan::problem(Problem::BadForm)),
+    if !is_entered(alloc, outbox, entry.id(), sure, &notes)? {
+        return hold(alloc, outbox, around, form, &notes, PageStatus::Asked);
     }
+    let cards = cards_place(alloc, form.round)?;
+    let entries = list_of(alloc, entry)?;
+    plan_entries(alloc, outbox, around, cards, entries)
 }
 
 /// What is to be done for a card that was read.
@@ -205,12 +152,13 @@ fn plan_read(
     ensures { IfOk result (PlansReadCard outbox.now.list around.entry.now
         (option_copied competition.entry) form.now sure.now) }
 {
-    match card_entry(alloc, form.id, read, around.remark)? {
-        Some(entry) => plan_spelled(alloc, outbox, around, competition, form, sure, entry),
-        None => {
-            let notes = only(alloc, CardNote::Card(CardFault::TooLong))?;
-            hold(alloc, outbox, around, form, &notes, PageStatus::Wrong)
-        }
+    let Some(entry) = card_entry(alloc, form.id, read, around.remark)? else {
+        let notes = only(alloc, CardNote::Card(CardFault::TooLong))?;
+        return hold(alloc, outbox, around, form, &notes, PageStatus::Wrong);
+    };
+    match card_in(alloc, entry.text())? {
+        Some(card) => plan_fit(alloc, outbox, around, competition, form, sure, entry, &card),
+        None => Ok(RequestPlan::problem(Problem::BadForm)),
     }
 }
 

@@ -1,9 +1,8 @@
 //! Entries that are to be taken.
 
-ghost use Rattle.std.specs.Prelude.{◌≡◌, ◌++◌, IfOk, IfSome, OnOk, decimal};
+ghost use Rattle.std.specs.Prelude.{◌≡◌, ◌++◌, ◌∷◌, [], IfOk, OnOk, decimal};
 ghost use Rattle.std.specs.Option.{option_map};
-ghost use Rattle.card_forms.specs.Entries.{card_in, card_of};
-ghost use Rattle.table_service.specs.Taking.{IsFitCard, PlansEntries, both_words, has_room};
+ghost use Rattle.table_service.specs.Taking.{PlansEntries, both_words, has_room};
 ghost use Rattle.table_service.specs.Taking.{is_sent, last_id, other_in, other_of, place_after};
 ghost use Rattle.table_service.specs.Taking.{place_with};
 
@@ -15,34 +14,17 @@ use itoa::Buffer;
 use outbox::Outbox;
 use std::alloc::{AllocError, Global};
 use table_views::PageContext;
-use texts::{CardEntry, Command, CommandFault, read};
 
 /// The most items that are known: as many as a log has entries.
 const MOST_ITEMS: usize = 65_536;
 
-/// The card of a command, if it is one.
-fn card_of(command: Command) -> Option<CardEntry>
-    ensures { result ≡ card_of command }
+/// A list of one entry.
+pub(crate) fn list_of(alloc: Global, entry: Entry) -> Result<Vec<Entry>, AllocError>
+    ensures { IfOk result (λ entries. entries.items ≡ entry ∷ []) }
 {
-    match command {
-        Command::Card(card) => Some(card),
-        _ => None,
-    }
-}
-
-/// The card that a text spells, with whatever remark, whose attempts are in their ranges; none
-/// where it spells no `CARD`.
-pub(crate) fn fit_card(alloc: Global, text: &[u8]) -> Result<Option<CardEntry>, AllocError>
-    ensures card { IfOk result (λ card. card ≡ card_in text.now) }
-    ensures fit { IfOk result (λ card. IfSome card IsFitCard) }
-{
-    match read(alloc, text) {
-        Ok(told) => Ok(card_of(told.command)),
-        Err(CommandFault::NoMemory) => Err(AllocError),
-        Err(CommandFault::TooLong | CommandFault::NotACommand | CommandFault::BadField { .. }) => {
-            Ok(None)
-        }
-    }
+    let mut entries = Vec::new(alloc);
+    entries.push(entry)?;
+    Ok(entries)
 }
 
 /// Whether the id of an entry is known with its text, whatever the remarks are.

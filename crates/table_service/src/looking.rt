@@ -1,6 +1,6 @@
 //! Commands that are looked at before they are sent: from lines, or from a competition's file.
 
-ghost use Rattle.std.specs.Prelude.{◌≡◌, IfOk, get_or, length, map};
+ghost use Rattle.std.specs.Prelude.{◌≡◌, IfOk, length, map};
 ghost use Rattle.std.specs.Option.{option_copied};
 ghost use Rattle.table_service.specs.Lists.{LooksAt, Previews, paired, tried_as};
 ghost use Rattle.table_service.specs.Imports.{PlansFile, PlansImport, PlansParts, boundary_in};
@@ -10,13 +10,13 @@ use crate::commanding::refuse;
 use crate::listing::UNFIT;
 use crate::plan::{PageStatus, Problem, RequestPlan};
 use bytes::Bytes;
-use card_forms::{CommandText, CommandTexts, FormId};
+use card_forms::{CommandText, CommandTexts};
 use command_lists::{FileLines, answers_to, lines_of_file, texts_in};
 use form_data::{Part, boundary_of, parts};
 use http::{Request, header};
 use std::alloc::{AllocError, Global};
 use table_people_views::{PreviewedCommand, faults_page, preview_page};
-use table_views::PageContext;
+use table_views::{PageContext, id_at};
 use texts::Answer;
 use wcif::{CumulativeLimits, Edition, Options, SameNames};
 
@@ -42,13 +42,6 @@ fn tried_of<'a>(
     Ok(tried)
 }
 
-/// The first of the ids of a page's forms.
-pub(crate) fn first_id(ids: &[FormId; 32]) -> FormId
-    ensures { result ≡ get_or ids.now 0 0 }
-{
-    ids[0]
-}
-
 /// The page that says what each command would be answered, after which the browser goes to this
 /// path.
 fn preview(
@@ -59,7 +52,7 @@ fn preview(
 ) -> Result<RequestPlan, AllocError>
     ensures { IfOk result (Previews around.entry.now back.now texts.now) }
 {
-    let id = first_id(around.ids);
+    let id = id_at(around.ids, 0);
     let answers = answers_to(alloc, around.mirror.log(), id, texts)?;
     let tried = tried_of(alloc, texts.as_slice(), &answers)?;
     let page = preview_page(alloc, around, back, &tried)?;

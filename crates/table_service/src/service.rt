@@ -1,13 +1,13 @@
 //! The service of the score table.
 
-ghost use Rattle.std.specs.Prelude.{◌≡◌, ◌≤◌, ◌∷◌, [], IfOk, length, slice_get};
+ghost use Rattle.std.specs.Prelude.{◌≡◌, ◌≤◌, IfOk, length, slice_get};
 ghost use Rattle.std.specs.Option.{option_copied};
 ghost use Rattle.outbox.specs.{Items.taken_back, Outboxes.with_list};
 ghost use Rattle.table_service.specs.Services.{StaysKept, TakesAs, TriesAll, is_new};
 ghost use Rattle.wire.specs.Ranges.{IsId};
 
 use crate::disk::Disk;
-use crate::entries::is_sent;
+use crate::entries::{is_sent, list_of};
 use crate::gate::is_own;
 use crate::journal_file::JournalFile;
 use crate::plan::{Effect, Problem, RequestPlan};
@@ -136,15 +136,6 @@ fn take_back(outbox: &mut Outbox, busy: Response, response: &mut Response)
 {
     outbox.not_kept();
     *response = busy;
-}
-
-/// A list of one entry.
-fn list_of(alloc: Global, entry: Entry) -> Result<Vec<Entry>, NoMemory>
-    ensures { IfOk result (λ entries. entries.items ≡ entry ∷ []) }
-{
-    let mut entries = Vec::new(alloc);
-    entries.push(entry)?;
-    Ok(entries)
 }
 
 impl<D: Disk> TableService<D> {
@@ -340,13 +331,6 @@ impl<D: Disk> TableService<D> {
 
     // ---- the browsers
 
-    /// A list of one entry.
-    fn one(&self, entry: Entry) -> Result<Vec<Entry>, AllocError>
-        ensures { IfOk result (λ entries. entries.items ≡ entry ∷ []) }
-    {
-        list_of(self.alloc, entry)
-    }
-
     /// Uses the front set of ids.
     fn use_ids(&mut self)
         ensures { self.new ≡ with_ids_used self.old }
@@ -458,7 +442,7 @@ impl<D: Disk> TableService<D> {
             response.new) }
         ensures err { OnErr result (self.new ≡ self.old) }
     {
-        let entries = self.one(entry)?;
+        let entries = list_of(self.alloc, entry)?;
         if self.take(&entries, response)? {
             self.use_ids();
             self.answer(of);

@@ -1,29 +1,23 @@
 //! A card that is taken back.
 
-ghost use Rattle.std.specs.Prelude.{◌≡◌, ◌++◌, ◌∷◌, ◌<◌, [], All, IfOk, IfSome, OnOk, Some, length};
-ghost use Rattle.std.specs.Prelude.{true};
-ghost use Rattle.texts.specs.Spelling.{IsEntered};
+ghost use Rattle.std.specs.Prelude.{◌≡◌, ◌++◌, ◌∷◌, [], IfOk, OnOk};
 ghost use Rattle.table_service.specs.Taking.{IsFitCard};
-ghost use Rattle.table_service.specs.Undoing.{PlansUndo, PlansUndoCard, PlansUndoIf, back_at};
-ghost use Rattle.table_service.specs.Undoing.{back_of, may_undo, time_for, typed_for, undone_entry};
+ghost use Rattle.table_service.specs.Undoing.{PlansUndo, PlansUndoItem, back_at, back_of, may_undo};
+ghost use Rattle.table_service.specs.Undoing.{time_for, typed_for, undone_entry};
 
-use crate::answering::{id_of, plan_leaving};
+use crate::answering::{item_of, plan_leaving, plan_over};
 use crate::checks::is_left;
-use crate::commanding::refuse;
-use crate::entering::cards_place;
-use crate::entries::{fit_card, has_room, place_with};
-use crate::looking::first_id;
 use crate::plan::{Effect, Problem, RequestPlan};
 use crate::refusing::{value_at, values_left};
 use acceptor::entry::Entry;
 use attempts::{Unit, Value};
-use card_forms::{FormId, Pairs, card_entry};
+use card_forms::{FormId, Pairs, card_entry, card_in};
 use commands::Meet;
 use formats::unit_of;
 use mirror::Mirror;
 use outbox::{Item, ItemState, Outbox};
 use std::alloc::{AllocError, Global};
-use table_views::PageContext;
+use table_views::{PageContext, id_at};
 use texts::{CardEntry, Entered, NewAttempts, SeenValues};
 
 /// The longest time that is typed, in hundredths of a second.
@@ -130,8 +124,7 @@ fn undone_entry(
     card: &CardEntry,
     remark: &[u8],
 ) -> Result<Option<Entry>, AllocError>
-    requires few { length card.now.now < 256 }
-    requires entered { All (λ o. IfSome o IsEntered) card.now.now }
+    requires { IsFitCard card.now }
     ensures { IfOk result (λ entry. entry
         ≡ undone_entry meet.now.accepted id card.entry.now remark.now) }
 {
@@ -152,31 +145,6 @@ fn undone_entry(
     card_entry(alloc, id, undone, remark)
 }
 
-/// What is to be done for a card that is to be taken back.
-fn plan_undo_card(
-    alloc: Global,
-    outbox: &Outbox,
-    around: &PageContext<'_>,
-    of: u64,
-    card: &CardEntry,
-) -> Result<RequestPlan, AllocError>
-    requires { IsFitCard card.now }
-    ensures { IfOk result
-        (PlansUndoCard around.entry.now outbox.now.list of (Some card.entry.now)) }
-{
-    let place = cards_place(alloc, card.id)?;
-    let meet = around.mirror.meet();
-    let id = first_id(around.ids);
-    let Some(entry) = undone_entry(alloc, id, meet, card, around.remark)? else {
-        return refuse(alloc, around, &place, UNTYPED);
-    };
-    if !has_room(outbox, 1) {
-        return Ok(RequestPlan::problem(Problem::Busy));
-    }
-    let after = place_with(alloc, &place, entry.id())?;
-    Ok(RequestPlan::see(after, Effect::Again { entry, of }))
-}
-
 /// What is to be done for an item that is saved, and is to be taken back.
 fn plan_undo_item(
     alloc: Global,
@@ -185,12 +153,14 @@ fn plan_undo_item(
     of: u64,
     item: &Item,
 ) -> Result<RequestPlan, AllocError>
-    ensures { IfOk result (PlansUndoIf true around.entry.now outbox.now.list of item.now) }
+    ensures { IfOk result (PlansUndoItem around.entry.now outbox.now.list of item.now) }
 {
-    match fit_card(alloc, item.entry.text())? {
-        Some(card) => plan_undo_card(alloc, outbox, around, of, &card),
-        None => Ok(RequestPlan::problem(Problem::BadForm)),
-    }
+    let Some(card) = card_in(alloc, item.entry.text())? else {
+        return Ok(RequestPlan::problem(Problem::BadForm));
+    };
+    let id = id_at(around.ids, 0);
+    let entry = undone_entry(alloc, id, around.mirror.meet(), &card, around.remark)?;
+    plan_over(alloc, outbox, around, of, card.id, entry, UNTYPED)
 }
 
 /// What is to be done for the form that takes a saved card back: a new card is entered, over what
@@ -203,14 +173,11 @@ pub(crate) fn plan_undo(
 ) -> Result<RequestPlan, AllocError>
     ensures { IfOk result (PlansUndo around.entry.now outbox.now.list pairs.now) }
 {
-    let Some(of) = id_of(pairs) else {
-        return Ok(RequestPlan::problem(Problem::BadForm));
-    };
-    match outbox.find(of) {
+    match item_of(outbox, pairs) {
         None => Ok(RequestPlan::problem(Problem::BadForm)),
-        Some(item) if may_undo(outbox, around.mirror, of) => {
+        Some((of, item)) if may_undo(outbox, around.mirror, of) => {
             plan_undo_item(alloc, outbox, around, of, item)
         }
-        Some(item) => plan_leaving(alloc, item, of, false),
+        Some((_of, item)) => plan_leaving(alloc, item, Effect::Nothing),
     }
 }

@@ -1,7 +1,0 @@
-use Rattle.std.proofs.Common.{append_assoc}
-use Rattle.table_views.proofs.Tails.{same_after}
-use Rattle.table_round_views.proofs.opening.push_come.Goals as goal
-
-pub returns : goal.returns
-returns c =
-    same_after c.fill.result _ _ _ (simp (c.come_word.ensures, append_assoc)) c.fill.ensures
