@@ -52,8 +52,8 @@ accepted_one cs ds es d h =
 -- Logs
 
 -- what is accepted of what was read
-pub own_checks : (k : ℕ) (cs : List Command) (c : RemarkedCommand)
-    → read_refusal_in k cs (Ok c) ≡ None → refusal cs c.command ≡ None
+own_checks : (k : ℕ) (cs : List Command) (c : RemarkedCommand) → read_refusal_in k cs (Ok c) ≡ None
+    → refusal cs c.command ≡ None
 own_checks k cs c h = known (knows k c.command) h
   where
     spelled : (b : Bool) → cond b (refusal cs c.command) (Some code.Unread) ≡ None
@@ -69,21 +69,24 @@ own_checks k cs c h = known (knows k c.command) h
         && nat_le (remark_edition (is_some c.remark)) (edition_in cs)) h
     known false h = absurd (some≢none code.Unread h)
 
--- an entry's command is accepted after those that were accepted before, or there is none
-accepted_read : (k : ℕ) (cs : List Command) (r : Result RemarkedCommand CommandFault)
-    → AreAccepted [] cs → AreAccepted [] (cs ++ added_read (read_refusal_in k cs r) r)
-accepted_read k cs (Err fault) h = subst (AreAccepted []) (sym (append-nil cs)) h
-accepted_read k cs (Ok c) h = step (read_refusal_in k cs (Ok c)) refl
+-- what a command that is accepted keeps, each entry keeps
+kept_read : (P : List Command → Type 0)
+    → ((cs : List Command) (c : Command) → refusal cs c ≡ None → P cs → P (cs ++ c ∷ []))
+    → (k : ℕ) (cs : List Command) (r : Result RemarkedCommand CommandFault) → P cs
+    → P (cs ++ added_read (read_refusal_in k cs r) r)
+kept_read P keeps k cs (Err fault) h = subst P (sym (append-nil cs)) h
+kept_read P keeps k cs (Ok c) h = step (read_refusal_in k cs (Ok c)) refl
   where
-    step : (o : Option Code) → read_refusal_in k cs (Ok c) ≡ o
-        → AreAccepted [] (cs ++ added o c.command)
-    step None is = first_of_both [] cs (c.command ∷ []) ∙ rw (h, own_checks k cs c is) refl
-    step (Some why) is = subst (AreAccepted []) (sym (append-nil cs)) h
+    step : (o : Option Code) → read_refusal_in k cs (Ok c) ≡ o → P (cs ++ added o c.command)
+    step None is = keeps cs c.command (own_checks k cs c is) h
+    step (Some why) is = subst P (sym (append-nil cs)) h
 
-accepted_after : (k : ℕ) (h : History) (id : ℕ) (text : List ℕ) → AreAccepted [] h.accepted
-    → AreAccepted [] (after_in k h id text).accepted
+pub kept_after : (P : List Command → Type 0)
+    → ((cs : List Command) (c : Command) → refusal cs c ≡ None → P cs → P (cs ++ c ∷ []))
+    → (k : ℕ) (h : History) (id : ℕ) (text : List ℕ) → P h.accepted
+    → P (after_in k h id text).accepted
 unfolding after_in
-accepted_after k h id text are = step (is_seen h id)
+kept_after P keeps k h id text are = step (is_seen h id)
   where
     new : History
     new = record {
@@ -93,16 +96,21 @@ accepted_after k h id text are = step (is_seen h id)
           ++ added_read (read_refusal_in k h.accepted (command_of text)) (command_of text);
     }
 
-    step : (b : Bool) → AreAccepted [] (cond b h new).accepted
+    step : (b : Bool) → P (cond b h new).accepted
     step true = are
-    step false = accepted_read k h.accepted (command_of text) are
+    step false = kept_read P keeps k h.accepted (command_of text) are
+
+accepts : (cs : List Command) (c : Command) → refusal cs c ≡ None → AreAccepted [] cs
+    → AreAccepted [] (cs ++ c ∷ [])
+accepts cs c is h = first_of_both [] cs (c ∷ []) ∙ rw (h, is) refl
 
 accepted_fold : (k : ℕ) (h : History) (entries : List (ℕ × List ℕ)) → AreAccepted [] h.accepted
     → AreAccepted []
     (fold (λ (x : History) (entry : ℕ × List ℕ). after_in k x entry.0 entry.1) h entries).accepted
 accepted_fold k h [] are = are
 accepted_fold k h (entry ∷ entries) are =
-    accepted_fold k (after_in k h entry.0 entry.1) entries (accepted_after k h entry.0 entry.1 are)
+    accepted_fold k (after_in k h entry.0 entry.1) entries
+    (kept_after (AreAccepted []) accepts k h entry.0 entry.1 are)
 
 pub logs_are_accepted : LogsAreAccepted
 logs_are_accepted k entries cs ds is =

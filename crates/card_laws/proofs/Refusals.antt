@@ -203,14 +203,6 @@ module _ (e : Event) (scrambles : ℕ → Option (List Move)) (n : ℕ) (x : Ent
   abbrev first_left : Option Code
   first_left = option_or (option_or (unfit_refusal e (scrambles 1) x) (put_refusal n 1 round)) rest
 
-  at_closed : round.1.is_closed ≡ true → unfit_refusal e (scrambles 1) x ≡ None
-      → card_left round.1.is_closed (entrant round.1 n) ≡ first_left
-  at_closed closed fit = rw (closed, fit) refl
-
-  at_nobody : round.1.is_closed ≡ false → unfit_refusal e (scrambles 1) x ≡ None
-      → entrant round.1 n ≡ None → card_left round.1.is_closed (entrant round.1 n) ≡ first_left
-  at_nobody opened fit nobody = rw (opened, nobody, fit) refl
-
   -- what the table says of a card by one who saw that nothing counts
   bare_left : (one : Entrant) (b : Bool) → one.values ≡ []
       → fits round.1.format round.1.cutoff left ≡ b
@@ -269,8 +261,8 @@ card_on true scrambles id n x xs (Some round) rules bare fit =
         → entrant round.1 n ≡ o
         → card_left id.event scrambles n x xs round round.1.is_closed (entrant round.1 n)
         ≡ first_left id.event scrambles n x xs round
-    step true closed o is = at_closed id.event scrambles n x xs round closed taken
-    step false opened None is = at_nobody id.event scrambles n x xs round opened taken is
+    step true closed o is = rw (closed, taken) refl
+    step false opened None is = rw (opened, is, taken) refl
     step false opened (Some one) is =
         at_one id.event scrambles n x xs round one rules opened is
         (found_bare n round.1.entrants one

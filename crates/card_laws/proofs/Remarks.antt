@@ -1,19 +1,19 @@
 -- Remarks count for nothing.
 use Rattle.std.proofs.Common.{◌≡◌, ℕ, ◌≤◌, ◌<◌, Bool, true, false, cond, nat_le, is_some, List, []}
-use Rattle.std.proofs.Common.{◌∷◌, ◌++◌, fold, Option, Some, None, unwrap_or, Result, Ok, Err, refl}
-use Rattle.std.proofs.Common.{sym, ap, ◌∙◌, subst, arith, append-nil, ◌⊎◌, inl, inr}
+use Rattle.std.proofs.Common.{◌∷◌, ◌++◌, fold, Option, Some, None, unwrap_or, Result, Ok, refl}
+use Rattle.std.proofs.Common.{sym, ap, ◌∙◌, subst, arith, ◌⊎◌, inl, inr}
 use Rattle.std.proofs.lemmas.{Bool.Decides.nat_tests, List.Sums.fold-append}
-use Rattle.texts.specs.declared.{answer.Code.Code, command.RemarkedCommand.RemarkedCommand}
+use Rattle.texts.specs.declared.{command.RemarkedCommand.RemarkedCommand}
 use Rattle.texts.specs.declared.command.Command.{Command, TheVariants.SetEdition}
 use Rattle.texts.specs.{declared.reading.CommandFault.CommandFault, Editions.remark_edition}
-use Rattle.texts.{specs.Reading.command_of, proofs.Words.spelled_found, proofs.Words.spelling_short}
+use Rattle.texts.{proofs.Words.spelled_found, proofs.Words.spelling_short}
 use Rattle.texts.specs.{Table.rows, Spelling.IsFit, Spelling.IsFitTold, Spelling.told_spelling}
 use Rattle.commands.specs.Accepted.{edition_set, edition_after, edition_in, refusal}
-use Rattle.commands.specs.History.{History, nothing, is_seen, answer_in, after_in, added}
+use Rattle.commands.specs.History.{History, nothing, answer_in, after_in}
 use Rattle.commands.specs.History.{added_read, read_refusal_in, entry_refusal_in, history_in}
 use Rattle.commands.proofs.Lookups.{some≢none}
 use Rattle.sheets.specs.Sheet.{sheet}
-use Rattle.card_laws.{proofs.Accepted.own_checks, specs.WorkedCards.SetsEdition}
+use Rattle.card_laws.{proofs.Accepted.kept_after, specs.WorkedCards.SetsEdition}
 use Rattle.card_laws.specs.Telling.{with_told, IsOneCommand, RemarksAreTold, IsToldAlike}
 use Rattle.card_laws.specs.Telling.{AreToldAlike, NothingStandsOnRemarks}
 use Rattle.texts.specs.declared.answer.Code.TheVariants as code
@@ -77,36 +77,10 @@ raises cs (SetEdition edition) accepted low = step (nat_le edition (edition_in c
         omega (arith, more, low)
 raises cs _ accepted low = low
 
-keeps_edition : (k : ℕ) (cs : List Command) (r : Result RemarkedCommand CommandFault)
-    → 4 ≤ edition_in cs → 4 ≤ edition_in (cs ++ added_read (read_refusal_in k cs r) r)
-keeps_edition k cs (Err fault) low =
-    subst (λ (ds : List Command). 4 ≤ edition_in ds) (sym (append-nil cs)) low
-keeps_edition k cs (Ok c) low = step (read_refusal_in k cs (Ok c)) refl
-  where
-    step : (o : Option Code) → read_refusal_in k cs (Ok c) ≡ o
-        → 4 ≤ edition_in (cs ++ added o c.command)
-    step None is =
-        subst (λ (n : ℕ). 4 ≤ n) (sym (edition_push 1 cs c.command))
-        (raises cs c.command (own_checks k cs c is) low)
-    step (Some why) is =
-        subst (λ (ds : List Command). 4 ≤ edition_in ds) (sym (append-nil cs)) low
-
-after_keeps : (k : ℕ) (h : History) (id : ℕ) (text : List ℕ) → 4 ≤ edition_in h.accepted
-    → 4 ≤ edition_in (after_in k h id text).accepted
-unfolding after_in
-after_keeps k h id text low = step (is_seen h id)
-  where
-    new : History
-    new = record {
-      ids = h.ids ++ id ∷ [];
-      accepted =
-          h.accepted
-          ++ added_read (read_refusal_in k h.accepted (command_of text)) (command_of text);
-    }
-
-    step : (b : Bool) → 4 ≤ edition_in (cond b h new).accepted
-    step true = low
-    step false = keeps_edition k h.accepted (command_of text) low
+edition_kept : (cs : List Command) (c : Command) → refusal cs c ≡ None → 4 ≤ edition_in cs
+    → 4 ≤ edition_in (cs ++ c ∷ [])
+edition_kept cs c is low =
+    subst (λ (n : ℕ). 4 ≤ n) (sym (edition_push 1 cs c)) (raises cs c is low)
 
 -- Lists of entries
 
@@ -130,7 +104,8 @@ module _ (k : ℕ) where
   fold_same h (x ∷ xs) [] low same = absurd same
   fold_same h (x ∷ xs) (y ∷ ys) low same =
       ap (λ (g : History). fold next g xs) (entry_same h x y same.0 low)
-      ∙ fold_same (next h y) xs ys (after_keeps k h y.0 y.1 low) same.1
+      ∙ fold_same (next h y) xs ys
+      (kept_after (λ ds. 4 ≤ edition_in ds) edition_kept k h y.0 y.1 low) same.1
 
   history_same : (entries one other : List (ℕ × List ℕ))
       → 4 ≤ edition_in (history_in k entries).accepted → AreToldAlike one other

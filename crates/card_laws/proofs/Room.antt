@@ -1,7 +1,7 @@
 -- Where more values fit, the next one is no attempt too many.
-use Rattle.std.proofs.Common.{◌≡◌, ℕ, zero, suc, ◌<◌, ◌≤◌, nat_le, Bool, true, false, cond, not}
-use Rattle.std.proofs.Common.{List, [], ◌∷◌, ◌++◌, length, take, Option, None, Some, refl, sym, ap}
-use Rattle.std.proofs.Common.{arith, subst, length-append}
+use Rattle.std.proofs.Common.{◌≡◌, ℕ, ◌<◌, ◌≤◌, nat_le, Bool, true, false, cond, not, List, [], ◌∷◌}
+use Rattle.std.proofs.Common.{◌++◌, length, Option, None, Some, refl, sym, ap, arith, subst}
+use Rattle.std.proofs.{Common.length-append, lemmas.List.take-append-le}
 use Rattle.std.{specs.List.list_any, proofs.lemmas.Bool.Decides.nat_tests}
 use Rattle.attempts.specs.declared.Value.{Value}
 use Rattle.formats.specs.{declared.events.Format.Format, Events.attempts_of}
@@ -15,12 +15,6 @@ fits_from format cutoff vs h = grind (arith, nat_tests)
 pub within_from : (format : Format) (cutoff : Option (ℕ × ℕ)) (vs : List Value)
     → fits format cutoff vs ≡ true → length vs ≤ allotted format cutoff vs
 within_from format cutoff vs h = grind (arith, nat_tests)
-
--- the first k of a list that has as many are those of a longer one
-take_more : (k : ℕ) (vs ws : List Value) → k ≤ length vs → take k (vs ++ ws) ≡ take k vs
-take_more zero vs ws h = refl
-take_more (suc k) [] ws h = absurd (omega (arith, h))
-take_more (suc k) (v ∷ vs) ws h = rw (take_more k vs ws (omega (arith, h))) refl
 
 abbrev by_met : Format → ℕ → Bool → ℕ
 by_met format k met = cond met (attempts_of format) k
@@ -45,7 +39,7 @@ room_before format (Some cutoff) vs v ws is h =
         let many : cutoff.0 ≤ length vs = grind (arith, nat_tests) in
         let long = length-append vs (v ∷ ws) in
         let same : meets cutoff (vs ++ v ∷ ws) ≡ meets cutoff vs =
-        ap (list_any (is_below cutoff.1)) (take_more cutoff.0 vs (v ∷ ws) many) in
+        ap (list_any (is_below cutoff.1)) (take-append-le cutoff.0 vs (v ∷ ws) many) in
         let there : length (vs ++ v ∷ ws) ≤ by_met format cutoff.0 (meets cutoff vs) =
         subst (λ b. length (vs ++ v ∷ ws) ≤ by_met format cutoff.0 b) same h in
         omega (arith, long, there)

@@ -23,7 +23,7 @@ use Rattle.commands.proofs.CardSteps.{same_values}
 use Rattle.commands.proofs.Lookups.{some≢none}
 use Rattle.card_laws.specs.Accepting.{first_refusal, AreAccepted}
 use Rattle.card_laws.specs.Holding.{held, names, values_left, entrant_with, CardStands, FixStands}
-use Rattle.card_laws.specs.GivingBack.{has_values, is_shown}
+use Rattle.card_laws.specs.{Holding.StandsUntilNamed, GivingBack.has_values, GivingBack.is_shown}
 use Rattle.card_laws.proofs.{Accepted.none_first, Accepted.none_second, Staying.one_more}
 use Rattle.card_laws.proofs.Entrants.{any_found, found_made, found_number}
 use Rattle.texts.specs.declared.answer.Code.TheVariants as code
@@ -181,30 +181,23 @@ stands cs (c ∷ later) e r n one h some unnamed accepted =
     (one_more cs c e r n one h unnamed.0 (stays_open cs c e r n one h some now)) some unnamed.1
     (none_second (refusal cs c) (first_refusal (cs ++ c ∷ []) later) accepted)
 
-stands_after : (cs later : List Command) (c : Command) (card : CardEntry) (round : Settings × Table)
-    → held card.number (round_by (cs ++ c ∷ []) card.id)
-    ≡ Some (entrant_with card.number (values_left cs card round)) → AreAccepted cs (c ∷ later)
-    → AllByRecursion (λ d. names card.id.event card.id.round card.number d ≡ false) later
-    → values_left cs card round ≢ [] → held card.number (round_by (cs ++ c ∷ later) card.id)
-    ≡ Some (entrant_with card.number (values_left cs card round))
-stands_after cs later c card round now accepted unnamed some =
+-- the same of each of the two commands with a card
+either_stands : (command : CardEntry → Command)
+    → ((card : CardEntry) → IsOfCard (command card) card)
+    → ((cs : List Command) (card : CardEntry) → refusal cs (command card) ≡ None
+    → is_shown cs card ≡ true) → StandsUntilNamed command
+either_stands command is shown cs later card round there accepted unnamed some =
+    let c : Command = command card in
+    let now = entered_by cs c card (is card) round there
+    (shown cs card (none_first (refusal cs c) (first_refusal (cs ++ c ∷ []) later) accepted)) in
     rw (sym (append_assoc cs (c ∷ []) later))
     (stands (cs ++ c ∷ []) later card.id.event card.id.round card.number
-    (entrant_with card.number (values_left cs card round)) now some unnamed
-    (none_second (refusal cs c) (first_refusal (cs ++ c ∷ []) later) accepted))
+    (entrant_with card.number (values_left cs card round)) now some
+    (recursion_from_All (λ d. names card.id.event card.id.round card.number d ≡ false) later
+    unnamed) (none_second (refusal cs c) (first_refusal (cs ++ c ∷ []) later) accepted))
 
 pub card_stands : CardStands
-card_stands cs later card round there accepted unnamed some =
-    stands_after cs later (Card card) card round
-    (entered_by cs (Card card) card (card_is card) round there (card_shown cs card
-    (none_first (refusal cs (Card card)) (first_refusal (cs ++ Card card ∷ []) later) accepted)))
-    accepted (recursion_from_All
-    (λ c. names card.id.event card.id.round card.number c ≡ false) later unnamed) some
+card_stands = either_stands Card card_is card_shown
 
 pub fix_stands : FixStands
-fix_stands cs later card round there accepted unnamed some =
-    stands_after cs later (Fix card) card round
-    (entered_by cs (Fix card) card (fix_is card) round there (fix_shown cs card
-    (none_first (refusal cs (Fix card)) (first_refusal (cs ++ Fix card ∷ []) later) accepted)))
-    accepted (recursion_from_All
-    (λ c. names card.id.event card.id.round card.number c ≡ false) later unnamed) some
+fix_stands = either_stands Fix fix_is fix_shown

@@ -10,11 +10,13 @@ pub fn what_stands_reads_back()
 
 /// A law: once edition 4 holds, two texts of one command, with whatever remarks, are answered alike
 /// and lead to the same.
+#[tactic(auto, using(crate::proofs::Remarks::remarks_are_told))]
 pub fn remarks_are_told()
     ensures { RemarksAreTold }
 {}
 
 /// A law: once edition 4 holds, no answer and no sheet depends on remarks.
+#[tactic(auto, using(crate::proofs::Remarks::nothing_stands_on_remarks))]
 pub fn nothing_stands_on_remarks()
     ensures { NothingStandsOnRemarks }
 {}

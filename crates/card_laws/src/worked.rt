@@ -19,17 +19,20 @@ pub fn works_standing()
 
 /// Of two cards over the same the second is refused, and accepted where the first was taken back;
 /// so in a closed round.
+#[tactic(auto, unfolding(commands::specs::Accepted::round_in))]
 pub fn works_giving_back()
     ensures { WorksGivingBack }
 {}
 
 /// A round is opened by mistake and taken back: it is not opened any more, and is as the opening
 /// after that has it. Where nobody takes it back it is as its first opening has it.
+#[tactic(auto, unfolding(commands::specs::Accepted::round_in))]
 pub fn works_taken_back()
     ensures { WorksTakenBack }
 {}
 
 /// After its text, edition 4 holds.
+#[tactic(auto, using(crate::proofs::Remarks::sets_edition))]
 pub fn sets_edition()
     ensures { SetsEdition }
 {}

@@ -4,14 +4,14 @@ use Rattle.std.specs.Prelude.{◌≡◌, ℕ, false, List, [], ◌∷◌, ◌++�
 use Rattle.connections.specs.Connections.{Connections, FollowEach, Served, TurnOf}
 use Rattle.guarded.specs.{LockedLaw.delivers, LockedConnections.fresh_locked_connection}
 use Rattle.guarded.specs.LockedTurns.{Follow, Place}
-use Rattle.learner.specs.{Desks.first_desk, Steps.IsDesk}
+use Rattle.learner.specs.Desks.{first_desk}
 use Rattle.learner.specs.declared.event.DeskEvent.TheVariants.{Deliver}
 use Rattle.multiplex.specs.{EachClient.IsServedBehind, declared.ends.EndReason.TheVariants.Ended}
 use Rattle.multiplex.specs.Passing.{Changed, Comes, IsServedEach, Room, Step, Stops, Visit}
 use Rattle.multiplex.specs.declared.ends.ServingEnd.TheVariants.{All as NoMore}
 use Rattle.multiplex.specs.declared.ends.ServingsOutcome.{ServingsOutcome}
 use Rattle.multiplex.specs.declared.table.ServingOptions.{ServingOptions}
-use Rattle.replica.specs.{Handles.Handles, Settles.Settles, Lengths.nothing_told, Stores.HoldsDesk}
+use Rattle.replica.specs.{Handles.Handles, Settles.Settles, Stores.HoldsDesk}
 use Rattle.seal.specs.Records.{preface_of, records}
 use Rattle.seal_laws.specs.Keys.{AreRandom}
 use Rattle.sealed.specs.Admitting.{comes_under}
@@ -21,8 +21,9 @@ use Rattle.serving.specs.{Connection.asked, declared.permission.Permission.TheVa
 use Rattle.serving.specs.TurnLaw.{Began, Came, Took, Turn}
 use Rattle.store.specs.declared.keeper.Keeper.{Ghosts}
 use Rattle.wire.specs.{Spelling.spelling, declared.values.Version.TheVariants.Two}
-use Rattle.hall_laws.specs.HallExample.{said_frame, says, third_home, tick_acts, tick_frame}
-use Rattle.desk_laws.specs.LoopRuns.{DoesAt, Doing, IsLoopRun, LoopStep, Loops}
+use Rattle.hall_laws.specs.HallExample.{KeepThree, said_frame, says, third_home, three_desks}
+use Rattle.hall_laws.specs.{HallExample.tick_acts, HallExample.tick_frame, HallRuns.nodes_of}
+use Rattle.desk_laws.specs.LoopRuns.{DoesAt, Doing, IsLoopRun, LoopStep}
 use Rattle.desk_laws.specs.{UnderKeys.needs_key, Ways.IsWay}
 
 -- one client is accepted
@@ -92,14 +93,6 @@ ServingWorks {K} k =
 
 -- ---- desks that serve by the loop
 
--- three desks, each opened with its keeper over an empty store
-abbrev pub first_loops : {K : Type 0} → (ℕ → K) → Loops K
-first_loops keeper = record {
-  nodes = λ d.
-      record { keeper = keeper d; desk = first_desk; is_down = false; told = nothing_told };
-  sent = [];
-}
-
 -- desk 1 makes a Tick, and says to the others how long its log is; desk 2 is given that
 abbrev pub ticks : Doing
 ticks = record {
@@ -113,8 +106,6 @@ hears = record { one = one; acts = Called (Deliver (says 2)) (Ok []) ∷ [] }
 -- this is a run of three desks, whatever keeps their state
 abbrev pub LoopsWork : {K : Type 0} → Ghosts K → Type 0
 LoopsWork {K} k =
-    (keeper : ℕ → K) → ((d : ℕ) → IsDesk 3 d
-    → (k.home_of (keeper d) ≡ third_home d) × HoldsDesk k (keeper d) first_desk)
-    → (steps : List (LoopStep K))
+    (keeper : ℕ → K) → KeepThree k keeper → (steps : List (LoopStep K))
     × (map (λ (s : LoopStep K). s.event) steps ≡ DoesAt 1 ticks ∷ DoesAt 2 hears ∷ [])
-    × IsLoopRun k 3 (first_loops keeper) steps
+    × IsLoopRun k 3 (nodes_of (three_desks keeper)) steps

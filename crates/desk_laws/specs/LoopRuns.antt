@@ -1,10 +1,10 @@
 -- Desks that serve by the program's own loop, with keys and sealed streams, with Ticks of their
 -- own: what may happen to them, one event after the other, in any order, and what becomes of it.
-use Rattle.std.specs.Prelude.{ℕ, ◌≡◌, ◌≢◌, ◌⊎◌, Bool, true, List, [], ◌∷◌, ◌++◌, Option, Some}
+use Rattle.std.specs.Prelude.{ℕ, ◌≡◌, ◌⊎◌, Bool, true, List, [], ◌∷◌, ◌++◌, Option, Some}
 use Rattle.std.specs.Prelude.{slice_get, take}
-use Rattle.acceptor.specs.declared.{entry.Entry.Entry, message.Message.Message}
+use Rattle.acceptor.specs.declared.entry.Entry.{Entry}
 use Rattle.answers.specs.Seen.{Seen}
-use Rattle.learner.specs.{Desks.first_desk, Laws.IsPrefix, Steps.IsDesk}
+use Rattle.learner.specs.{Laws.IsPrefix, Steps.IsDesk}
 use Rattle.learner.specs.Worlds.{World, new_world}
 use Rattle.multiplex.specs.EachClient.{AreDoneInTurn, Deed, Frame, OwnTick, Settling}
 use Rattle.polled.specs.Happenings.{Happened}
@@ -12,12 +12,11 @@ use Rattle.multiplex.specs.Passing.{IsServedEach, Room, Step, point_in}
 use Rattle.multiplex.specs.declared.ends.ServingsOutcome.{ServingsOutcome}
 use Rattle.multiplex.specs.declared.table.ServingOptions.{ServingOptions}
 use Rattle.replica.specs.{Handles.Handles, Settles.Settles, Nodes.NodeValue, Opens.Opens}
-use Rattle.replica.specs.Stores.{HoldsDesk}
 use Rattle.serving.specs.{Connection.Begun, Connection.serve_frame, Serving.Act}
 use Rattle.serving.specs.Making.{Lead, calls_of, speaking}
 use Rattle.store.specs.declared.{home.Home.Home, keeper.Keeper.Ghosts}
-use Rattle.hall_laws.specs.HallRuns.{FrameWasSent, IsSameStore, IsTakenIn, IsTick, StopsInSave}
-use Rattle.hall_laws.specs.OwnMessages.{sent_after}
+use Rattle.hall_laws.specs.HallRuns.{AreWorld, FrameWasSent, IsFirstNode, IsSameStore, IsTakenIn}
+use Rattle.hall_laws.specs.HallRuns.{IsTick, Nodes, OnlyNode, StopsInSave}
 use Rattle.hall_laws.specs.Stops.{AreMoments, AreTaken, Happening, state_after}
 use Rattle.wire.specs.declared.frame.FrameBody.TheVariants as what
 
@@ -80,11 +79,6 @@ ServingsAreDoings {K} k =
 
 -- ---- the desks of a hall
 
--- their nodes by their numbers, and the messages that calls of them have handed out, in order
-pub record Loops (K : Type 0) : Type 0 where
-  pub nodes : ℕ → NodeValue K
-  pub sent : List Message
-
 abbrev pub home_in : {K : Type 0} → Ghosts K → NodeValue K → Home
 home_in k x = k.home_of x.keeper
 
@@ -97,23 +91,18 @@ pub data LoopEvent : Type 0 where
   OpensAt : ℕ → LoopEvent
   StopsAt : ℕ → Doing → LoopEvent
 
--- no other desk has changed, and what the calls among these acts hand out was sent
-pub record OnlyAt {K : Type 0} (d : ℕ) (acts : List Act) (a b : Loops K) : Type 0 where
-  pub others : (j : ℕ) → j ≢ d → b.nodes j ≡ a.nodes j
-  pub sent : b.sent ≡ sent_after a.sent acts
-
-pub record Does {K : Type 0} (k : Ghosts K) (n d : ℕ) (doing : Doing) (a b : Loops K) : Type 0
+pub record Does {K : Type 0} (k : Ghosts K) (n d : ℕ) (doing : Doing) (a b : Nodes K) : Type 0
   where
     pub ours : IsDesk n d
-    pub does : IsDone k (home_in k (a.nodes d)) doing (a.nodes d) (b.nodes d)
+    pub does : IsDone k (home_in k (a.node d)) doing (a.node d) (b.node d)
     -- the premise on messages: what the frame brings was sent
-    pub brings : FrameWasSent (home_in k (a.nodes d)) a.sent doing.one
-    pub only : OnlyAt d doing.acts a b
+    pub brings : FrameWasSent (home_in k (a.node d)) a.sent doing.one
+    pub only : OnlyNode d doing.acts a b
 
-pub record SettlesOnce {K : Type 0} (k : Ghosts K) (n d : ℕ) (a b : Loops K) : Type 0 where
+pub record SettlesOnce {K : Type 0} (k : Ghosts K) (n d : ℕ) (a b : Nodes K) : Type 0 where
   pub ours : IsDesk n d
-  pub settles : Settles k (a.nodes d) true (b.nodes d)
-  pub only : OnlyAt d [] a b
+  pub settles : Settles k (a.node d) true (b.node d)
+  pub only : OnlyNode d [] a b
 
 -- the node was opened over this keeper, whose store gave back what was written to it
 pub record IsOpened {K : Type 0} (k : Ghosts K) (keeper : K) (y : NodeValue K) : Type 0 where
@@ -121,27 +110,27 @@ pub record IsOpened {K : Type 0} (k : Ghosts K) (keeper : K) (y : NodeValue K) :
   -- the premise on files
   pub honest : k.is_honest y.keeper
 
-pub record OpensAgain {K : Type 0} (k : Ghosts K) (n d : ℕ) (a b : Loops K) : Type 0 where
+pub record OpensAgain {K : Type 0} (k : Ghosts K) (n d : ℕ) (a b : Nodes K) : Type 0 where
   pub ours : IsDesk n d
   pub keeper : K
-  pub store : IsSameStore k (a.nodes d).keeper keeper (b.nodes d).desk
-  pub opened : IsOpened k keeper (b.nodes d)
-  pub only : OnlyAt d [] a b
+  pub store : IsSameStore k (a.node d).keeper keeper (b.node d).desk
+  pub opened : IsOpened k keeper (b.node d)
+  pub only : OnlyNode d [] a b
 
-pub record Stops {K : Type 0} (k : Ghosts K) (n d : ℕ) (doing : Doing) (a b : Loops K) : Type 0
+pub record Stops {K : Type 0} (k : Ghosts K) (n d : ℕ) (doing : Doing) (a b : Nodes K) : Type 0
   where
     pub ours : IsDesk n d
     -- the node as it stopped, between two calls or in the next one
     pub node : NodeValue K
-    pub does : IsDone k (home_in k (a.nodes d)) doing (a.nodes d) node
-    pub brings : FrameWasSent (home_in k (a.nodes d)) a.sent doing.one
+    pub does : IsDone k (home_in k (a.node d)) doing (a.node d) node
+    pub brings : FrameWasSent (home_in k (a.node d)) a.sent doing.one
     pub keeper : K
-    pub store : IsSameStore k node.keeper keeper (b.nodes d).desk
+    pub store : IsSameStore k node.keeper keeper (b.node d).desk
         ⊎ StopsInSave k node keeper does.rest
-    pub opened : IsOpened k keeper (b.nodes d)
-    pub only : OnlyAt d doing.acts a b
+    pub opened : IsOpened k keeper (b.node d)
+    pub only : OnlyNode d doing.acts a b
 
-abbrev pub LoopGoes : {K : Type 0} → Ghosts K → ℕ → LoopEvent → Loops K → Loops K → Type 0
+abbrev pub LoopGoes : {K : Type 0} → Ghosts K → ℕ → LoopEvent → Nodes K → Nodes K → Type 0
 LoopGoes k n (DoesAt d doing) a b = Does k n d doing a b
 LoopGoes k n (SettlesAt d) a b = SettlesOnce k n d a b
 LoopGoes k n (OpensAt d) a b = OpensAgain k n d a b
@@ -152,55 +141,44 @@ LoopGoes k n (StopsAt d doing) a b = Stops k n d doing a b
 -- an event, and the desks after it
 pub record LoopStep (K : Type 0) : Type 0 where
   pub event : LoopEvent
-  pub after : Loops K
+  pub after : Nodes K
 
-abbrev pub AreLoopSteps : {K : Type 0} → Ghosts K → ℕ → Loops K → List (LoopStep K) → Type 0
+abbrev pub AreLoopSteps : {K : Type 0} → Ghosts K → ℕ → Nodes K → List (LoopStep K) → Type 0
 AreLoopSteps {K} k n a steps =
     AreTaken (λ (s : LoopStep K). s.after) (λ b s. LoopGoes k n s.event b s.after) a steps
 
--- desk d of n, that was opened over an empty store
-pub record IsFirst {K : Type 0} (k : Ghosts K) (n d : ℕ) (x : NodeValue K) : Type 0 where
-  pub desks : (home_in k x).desks ≡ n
-  pub desk : (home_in k x).desk ≡ d
-  pub first : x.desk ≡ first_desk
-  pub stored : HoldsDesk k x.keeper first_desk
-
-pub record IsLoopRun {K : Type 0} (k : Ghosts K) (n : ℕ) (a : Loops K)
+pub record IsLoopRun {K : Type 0} (k : Ghosts K) (n : ℕ) (a : Nodes K)
     (steps : List (LoopStep K)) : Type 0 where
-  pub first : (d : ℕ) → IsDesk n d → IsFirst k n d (a.nodes d)
+  pub first : (d : ℕ) → IsDesk n d → IsFirstNode k n d (a.node d)
   pub unsent : a.sent ≡ []
   pub taken : AreLoopSteps k n a steps
 
-abbrev pub loops_after : {K : Type 0} → Loops K → List (LoopStep K) → Loops K
+abbrev pub loops_after : {K : Type 0} → Nodes K → List (LoopStep K) → Nodes K
 loops_after {K} a steps = state_after (λ (s : LoopStep K). s.after) a steps
 
 -- the log of desk d after the first i steps
-abbrev pub loop_log : {K : Type 0} → Loops K → List (LoopStep K) → ℕ → ℕ → List Entry
-loop_log a steps i d = ((loops_after a (take i steps)).nodes d).desk.log
+abbrev pub loop_log : {K : Type 0} → Nodes K → List (LoopStep K) → ℕ → ℕ → List Entry
+loop_log a steps i d = ((loops_after a (take i steps)).node d).desk.log
 
 -- ---- what holds of every run
 
--- each desk knows what the world's desk knows, and what was sent here was sent there
-pub record IsWorld {K : Type 0} (n : ℕ) (a : Loops K) (w : World) : Type 0 where
-  pub nodes : (d : ℕ) → IsDesk n d → (a.nodes d).desk ≡ w.desks d
-  pub sent : a.sent ≡ w.sent
-
--- so it is at first, and after each step, where each step is these happenings
-abbrev pub AreHappenings : {K : Type 0} → ℕ → Loops K → World → List (LoopStep K)
+-- At first, and after each step, each desk knows what the world's desk knows, and what was sent
+-- here was sent there, where each step is these happenings.
+abbrev pub AreHappenings : {K : Type 0} → ℕ → Nodes K → World → List (LoopStep K)
     → List (List Happening) → Type 0
 AreHappenings {K} n a w steps each =
-    AreMoments (λ (s : LoopStep K). s.after) (λ b v. IsWorld n b v) n a w steps each
+    AreMoments (λ (s : LoopStep K). s.after) (λ b v. AreWorld n b v) n a w steps each
 
 -- the calls of all desks together are a run of the world
 abbrev pub LoopsAreRuns : {K : Type 0} → Ghosts K → Type 0
 LoopsAreRuns {K} k =
-    (n : ℕ) (a : Loops K) (steps : List (LoopStep K)) → IsLoopRun k n a steps
+    (n : ℕ) (a : Nodes K) (steps : List (LoopStep K)) → IsLoopRun k n a steps
     → (each : List (List Happening)) × AreHappenings n a new_world steps each
 
 -- of the logs of any two desks at any two moments one is a prefix of the other
 abbrev pub LoopLogsAgree : {K : Type 0} → Ghosts K → Type 0
 LoopLogsAgree {K} k =
-    (n : ℕ) (a : Loops K) (steps : List (LoopStep K)) (i j d f : ℕ)
+    (n : ℕ) (a : Nodes K) (steps : List (LoopStep K)) (i j d f : ℕ)
     → IsLoopRun k n a steps → IsDesk n d → IsDesk n f
     → IsPrefix (loop_log a steps i d) (loop_log a steps j f)
     ⊎ IsPrefix (loop_log a steps j f) (loop_log a steps i d)
@@ -212,19 +190,17 @@ BeginsIn (SettlesAt d) doing = ⊥
 BeginsIn (OpensAt d) doing = ⊥
 BeginsIn (StopsAt d it) doing = it ≡ doing
 
--- in one of the steps a desk accepted the entry of a frame that submits it
-pub record WasEntered {K : Type 0} (steps : List (LoopStep K)) (e : Entry) : Type 0 where
-  pub at : ℕ
-  pub step : LoopStep K
-  pub here : slice_get steps at ≡ Some step
+-- a desk accepts the entry of a frame that submits it
+pub record TakesIn (event : LoopEvent) (e : Entry) : Type 0 where
   pub doing : Doing
-  pub begins : BeginsIn step.event doing
+  pub begins : BeginsIn event doing
   pub asked : doing.one.frame.what ≡ what.Submit e
   pub taken : IsTakenIn e (calls_of doing.acts)
 
--- every entry of a log was submitted before, by such a frame
+-- of every entry of a log a desk did so in one of the steps before
 abbrev pub LoopEntriesAreSubmitted : {K : Type 0} → Ghosts K → Type 0
 LoopEntriesAreSubmitted {K} k =
-    (n : ℕ) (a : Loops K) (steps : List (LoopStep K)) (i d pos : ℕ) (e : Entry)
+    (n : ℕ) (a : Nodes K) (steps : List (LoopStep K)) (i d pos : ℕ) (e : Entry)
     → IsLoopRun k n a steps → IsDesk n d → slice_get (loop_log a steps i d) pos ≡ Some e
-    → WasEntered (take i steps) e
+    → (at : ℕ) × (step : LoopStep K) × (slice_get (take i steps) at ≡ Some step)
+    × TakesIn step.event e

@@ -21,9 +21,10 @@ use Rattle.hall_laws.specs.Differing.{IsBrought, IsGiven, IsHeardIn, SmallRunCom
 use Rattle.hall_laws.{specs.Differing.WereSentInOrder, proofs.HallFrames.takes_turn_as}
 use Rattle.hall_laws.proofs.HallFrames.{talk_there, begun_whole, came_whole, other_talks, talk_with}
 use Rattle.hall_laws.specs.HallExample.{third_home, three_desks, tick_frame, says, said_frame}
-use Rattle.hall_laws.specs.HallExample.{first_of, begun_as, tick_acts, SmallRunIsARun}
+use Rattle.hall_laws.specs.HallExample.{first_of, begun_as, tick_acts, KeepThree, SmallRunIsARun}
 use Rattle.hall_laws.specs.HallRuns.{Station, HallEvent, HallStep, IsHallRun, TickedAt, TurnWasSent}
-use Rattle.hall_laws.specs.HallRuns.{Hall, TurnAt, seen_of, IsTick, HallGoes, acts_of, desk_of}
+use Rattle.hall_laws.specs.HallRuns.{Hall, IsFirstNode, TurnAt, seen_of, IsTick, HallGoes}
+use Rattle.hall_laws.specs.HallRuns.{acts_of, desk_of}
 use Rattle.hall_laws.proofs.HallGoing.{with_station, ticks_itself}
 
 abbrev pub first_node : {K : Type 0} → K → NodeValue K
@@ -65,6 +66,49 @@ still {K} k keeper d event ms home holds steps told range fits = record {
   where
     no_fault : {A B : Type 0} {a : A} {b : B} → Ok a ≡ Err b → ⊥
     no_fault is = cc
+
+-- ---- three desks
+
+pub one_of_three : IsDesk 3 1
+one_of_three = (omega arith, omega arith)
+
+pub two_of_three : IsDesk 3 2
+two_of_three = (omega arith, omega arith)
+
+-- a Tick of desk 1, and what it says as desk 2 is given it
+pub tick_handled : {K : Type 0} (k : Ghosts K) (keeper : ℕ → K) → KeepThree k keeper
+    → Handles k (first_node (keeper 1)) Tick (Ok (says 2 ∷ says 3 ∷ [])) (first_node (keeper 1))
+tick_handled k keeper own =
+    still k (keeper 1) 1 Tick (says 2 ∷ says 3 ∷ []) (own 1 one_of_three).0 (own 1 one_of_three).1
+    refl refl named fits
+  where
+    named : AreInRange 3 1 (says 2 ∷ says 3 ∷ [])
+    named = (
+      (refl, record { from = one_of_three; to = two_of_three; body = refl }),
+      ((refl, record { from = one_of_three; to = (omega arith, omega arith); body = refl }), tt),
+    )
+
+    fits : FitInFrames (says 2 ∷ says 3 ∷ [])
+    fits zero m less = tt
+    fits (suc zero) m less = tt
+    fits (suc (suc j)) m less = absurd (omega arith)
+
+pub says_handled : {K : Type 0} (k : Ghosts K) (keeper : ℕ → K) → KeepThree k keeper
+    → Handles k (first_node (keeper 2)) (Deliver (says 2)) (Ok []) (first_node (keeper 2))
+says_handled k keeper own =
+    still k (keeper 2) 2 (Deliver (says 2)) [] (own 2 two_of_three).0 (own 2 two_of_three).1 refl
+    refl tt (λ j m less. absurd (omega arith))
+
+pub first_three : {K : Type 0} (k : Ghosts K) (keeper : ℕ → K) → KeepThree k keeper → (d : ℕ)
+    → IsDesk 3 d → IsFirstNode k 3 d (first_node (keeper d))
+first_three k keeper own d ours =
+    let is = own d ours in
+    record {
+      desks = ap (λ z. z.desks) is.0;
+      desk = ap (λ z. z.desk) is.0;
+      first = refl;
+      stored = is.1;
+    }
 
 -- ---- turns
 
@@ -159,12 +203,6 @@ hall_5 keeper =
     with_station (hall_4 keeper) 1 (station (keeper 1) 1
     (talk_of (third_home 1) [] 1 (answer_to (third_home 1) tick_frame))) tick_acts
 
-pub one_of_three : IsDesk 3 1
-one_of_three = (omega arith, omega arith)
-
-pub two_of_three : IsDesk 3 2
-two_of_three = (omega arith, omega arith)
-
 tick_is_frame : IsFrame tick_frame
 tick_is_frame = record { hall = omega arith; goes = (refl, (omega arith, omega arith)); body = tt }
 
@@ -187,18 +225,13 @@ small_steps keeper =
     ∷ record { event = TurnAt 2 (first_of (begun_as said_frame)) hear_acts; after = hall_4 keeper }
     ∷ record { event = TickedAt 1 (as_begun tick_frame) tick_acts; after = hall_5 keeper } ∷ []
 
-small_run_taken : {K : Type 0} (k : Ghosts K) (keeper : ℕ → K) → ((d : ℕ) → IsDesk 3 d
-    → (k.home_of (keeper d) ≡ third_home d) × HoldsDesk k (keeper d) first_desk)
+small_run_taken : {K : Type 0} (k : Ghosts K) (keeper : ℕ → K) → KeepThree k keeper
     → IsHallRun k 3 (three_desks keeper) (small_steps keeper)
 small_run_taken {K} k keeper own = record {
   first = λ d ours.
-      let is = own d ours in
       record {
-        desks = ap (λ z. z.desks) is.0;
-        desk = ap (λ z. z.desk) is.0;
-        first = refl;
-        stored = is.1;
-        talks = λ j. ap (λ z. new_talk z Two) (sym is.0);
+        node = first_three k keeper own d ours;
+        talks = λ j. ap (λ z. new_talk z Two) (sym (own d ours).0);
       };
   unsent = refl;
   taken = (first_turn, (second_turn, (third_turn, (fourth_turn, (own_tick, tt)))));
@@ -218,28 +251,6 @@ small_run_taken {K} k keeper own = record {
 
     five : HallEvent
     five = TickedAt 1 (as_begun tick_frame) tick_acts
-
-    named : AreInRange 3 1 (says 2 ∷ says 3 ∷ [])
-    named = (
-      (refl, record { from = one_of_three; to = two_of_three; body = refl }),
-      ((refl, record { from = one_of_three; to = (omega arith, omega arith); body = refl }), tt),
-    )
-
-    fits : FitInFrames (says 2 ∷ says 3 ∷ [])
-    fits zero m less = tt
-    fits (suc zero) m less = tt
-    fits (suc (suc j)) m less = absurd (omega arith)
-
-    handles_1 : Handles k (first_node (keeper 1)) Tick (Ok (says 2 ∷ says 3 ∷ []))
-        (first_node (keeper 1))
-    handles_1 =
-        still k (keeper 1) 1 Tick (says 2 ∷ says 3 ∷ []) (own 1 one_of_three).0
-        (own 1 one_of_three).1 refl refl named fits
-
-    handles_2 : Handles k (first_node (keeper 2)) (Deliver (says 2)) (Ok []) (first_node (keeper 2))
-    handles_2 =
-        still k (keeper 2) 2 (Deliver (says 2)) [] (own 2 two_of_three).0
-        (own 2 two_of_three).1 refl refl tt (λ j m less. absurd (omega arith))
 
     new : ℕ → ℕ → Talk
     new d j = new_talk (third_home d) Two
@@ -286,7 +297,7 @@ small_run_taken {K} k keeper own = record {
     second_turn : HallGoes k 3 two (hall_1 keeper) (hall_2 keeper)
     second_turn =
         begins 1 tick_frame tick_acts (hall_1 keeper) one_of_three refl
-        (ticks k (keeper 1) handles_1) ticks_so
+        (ticks k (keeper 1) (tick_handled k keeper own)) ticks_so
         (subst (λ z. TurnWasSent z [] (begun_as tick_frame)) (sym (own 1 one_of_three).0) tt)
 
     third_turn : HallGoes k 3 three (hall_2 keeper) (hall_3 keeper)
@@ -295,7 +306,7 @@ small_run_taken {K} k keeper own = record {
     fourth_turn : HallGoes k 3 four (hall_3 keeper) (hall_4 keeper)
     fourth_turn =
         begins 2 said_frame hear_acts (hall_3 keeper) two_of_three refl
-        (hears k (keeper 2) handles_2) hears_so
+        (hears k (keeper 2) (says_handled k keeper own)) hears_so
         (subst (λ z. TurnWasSent z (says 2 ∷ says 3 ∷ []) (begun_as said_frame))
         (sym (own 2 two_of_three).0) ((1, refl, refl), tt))
 
@@ -307,7 +318,7 @@ small_run_taken {K} k keeper own = record {
         (subst (λ z. IsTick z (as_begun tick_frame)) (sym (own 1 one_of_three).0) refl) (subst
         (λ z. (serve_frame z first_seen (as_begun tick_frame)).acts ≡ tick_acts ++ [])
         (sym (own 1 one_of_three).0) (sym ticks_so))
-        (record { calls = (first_node (keeper 1), handles_1, refl); pushes = tt })
+        (record { calls = (first_node (keeper 1), tick_handled k keeper own, refl); pushes = tt })
 
 pub small_run_is_a_run : {K : Type 0} (k : Ghosts K) → SmallRunIsARun k
 small_run_is_a_run k keeper own = (small_steps keeper, refl, small_run_taken k keeper own)

@@ -365,11 +365,18 @@ pub first_run : IsHallRun memory 3 first_hall []
 first_run = record {
   first = λ d ours.
       record {
-        desks = refl;
-        desk = refl;
-        first = refl;
-        stored = λ honest.
-            record { holds = (refl, refl); only = λ t more may. may; whole = λ never. never };
+        node =
+            record {
+              desks = refl;
+              desk = refl;
+              first = refl;
+              stored = λ honest.
+                  record {
+                    holds = (refl, refl);
+                    only = λ t more may. may;
+                    whole = λ never. never;
+                  };
+            };
         talks = λ j. refl;
       };
   unsent = refl;

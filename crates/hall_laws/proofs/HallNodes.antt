@@ -3,14 +3,15 @@ use Rattle.std.proofs.Common.{◌≡◌, ◌≢◌, ◌⊎◌, inl, inr, refl, s
 use Rattle.std.proofs.Common.{false, if◌then◌else◌, eqb, List, [], ◌∷◌, ◌++◌}
 use Rattle.std.proofs.lemmas.{Bool.eqb-true, Bool.eqb-false, Bool.ne_eqb, List.append-nil}
 use Rattle.acceptor.specs.declared.{entry.Entry.Entry, message.Message.Message}
-use Rattle.learner.specs.{Desks.Desk, Desks.first_desk, Ranges.AreInRange, Steps.IsDesk, Steps.step}
+use Rattle.learner.specs.{Desks.Desk, Ranges.AreInRange, Steps.IsDesk, Steps.step}
 use Rattle.learner.specs.Worlds.{World, new_world, put}
 use Rattle.replica.specs.{Handles.Handles, Nodes.NodeValue, Opens.Opens, Settles.Settles}
 use Rattle.replica.specs.Stores.{HoldsDesk, HoldsStep}
 use Rattle.serving.specs.{Making.Call, Making.Lead, Making.calls_of, Serving.Act}
 use Rattle.store.specs.declared.keeper.Keeper.{Ghosts}
-use Rattle.hall_laws.specs.HallRuns.{IsSameStore, IsTakenIn, StopsInSave}
-use Rattle.hall_laws.{specs.OwnMessages.sent_after, proofs.Calls.same_world}
+use Rattle.hall_laws.specs.HallRuns.{AreWorld, IsFirstNode, IsSameStore, IsTakenIn, Nodes, OnlyNode}
+use Rattle.hall_laws.specs.HallRuns.{StopsInSave}
+use Rattle.hall_laws.proofs.Calls.{same_world}
 use Rattle.hall_laws.specs.Served.{AreSentTo, StandsFor, all_handed_out}
 use Rattle.hall_laws.specs.Stops.{CallsAreHappenings, Happening, real_run, with_desk}
 use Rattle.hall_laws.proofs.HallDesks.{Kept, Reopens, calls_named, home_after, kept_calls}
@@ -38,16 +39,6 @@ put_other desks d j x other =
 
 -- ---- nodes and their world
 
--- the nodes of desks by their numbers, and the messages that were sent
-pub record Nodes (K : Type 0) : Type 0 where
-  pub node : ℕ → NodeValue K
-  pub sent : List Message
-
--- only the node of desk d has changed, and what the calls among these acts hand out was sent
-pub record OnlyNode {K : Type 0} (d : ℕ) (acts : List Act) (a b : Nodes K) : Type 0 where
-  pub others : (j : ℕ) → j ≢ d → b.node j ≡ a.node j
-  pub sent : b.sent ≡ sent_after a.sent acts
-
 -- the node knows what the world's desk knows; its store holds that, or what a failed save left
 pub record NodeMatches {K : Type 0} (k : Ghosts K) (n d : ℕ) (w : World)
     (x : NodeValue K) : Type 0 where
@@ -58,13 +49,23 @@ pub record NodesMatch {K : Type 0} (k : Ghosts K) (n : ℕ) (a : Nodes K) (w : W
   pub here : (d : ℕ) → IsDesk n d → NodeMatches k n d w (a.node d)
   pub sent : a.sent ≡ w.sent
 
--- so it is of a node that was opened over an empty store, before anything happens
-pub first_match : {K : Type 0} (k : Ghosts K) (n d : ℕ) (x : NodeValue K) → IsDesk n d
-    → (k.home_of x.keeper).desks ≡ n → (k.home_of x.keeper).desk ≡ d → x.desk ≡ first_desk
-    → HoldsDesk k x.keeper first_desk → NodeMatches k n d new_world x
-first_match k n d x ours desks desk first stored = record {
-  stands = record { ours = ours; desks = desks; desk = desk; known = first };
-  kept = inl (subst (λ (u : Desk). HoldsDesk k x.keeper u) (sym first) stored);
+pub in_world : {K : Type 0} (k : Ghosts K) (n : ℕ) (a : Nodes K) (w : World) → NodesMatch k n a w
+    → AreWorld n a w
+in_world k n a w m = record { desks = λ d ours. (m.here d ours).stands.known; sent = m.sent }
+
+-- so it is of nodes that were opened over empty stores, before anything happens
+pub first_match : {K : Type 0} (k : Ghosts K) (n : ℕ) (a : Nodes K)
+    → ((d : ℕ) → IsDesk n d → IsFirstNode k n d (a.node d)) → a.sent ≡ []
+    → NodesMatch k n a new_world
+first_match k n a are unsent = record {
+  here = λ d ours.
+      let is = are d ours in
+      record {
+        stands = record { ours = ours; desks = is.desks; desk = is.desk; known = is.first };
+        kept =
+            inl (subst (λ u. HoldsDesk k (a.node d).keeper u) (sym is.first) is.stored);
+      };
+  sent = unsent;
 }
 
 -- another desk, where desk d is as y and more was sent

@@ -9,21 +9,19 @@ use Rattle.serving.specs.{Making.Lead, Making.calls_of, Making.speaking, Serving
 use Rattle.connections.specs.Connections.{TurnOf, place_of}
 use Rattle.store.specs.declared.keeper.Keeper.{Ghosts}
 use Rattle.hall_laws.specs.HallRuns.{CutAt, Enters, Hall, HallEvent, HallGoes, IsCut, IsTakenIn}
-use Rattle.hall_laws.specs.HallRuns.{OnlyAt, OpenedAt, SettledAt, Station, TakesTurn, TickedAt}
-use Rattle.hall_laws.specs.HallRuns.{TicksItself, TurnAt, TurnWasSent, acts_of, connections}
-use Rattle.hall_laws.specs.{HallRuns.desk_of, HallRuns.home_at, HallRuns.seen_of, Stops.real_run}
+use Rattle.hall_laws.specs.HallRuns.{OnlyAt, OnlyNode, OpenedAt, SettledAt, Station, TakesTurn}
+use Rattle.hall_laws.specs.HallRuns.{TickedAt, TicksItself, TurnAt, TurnWasSent, acts_of}
+use Rattle.hall_laws.specs.HallRuns.{connections, desk_of, home_at, nodes_of, seen_of}
 use Rattle.hall_laws.specs.{Arriving.delivers, OwnMessages.WereSentTo, Stops.CallsAreHappenings}
 use Rattle.hall_laws.specs.{Served.AreSentTo, Served.all_handed_out, Stops.Happening}
+use Rattle.hall_laws.specs.Stops.{real_run}
 use Rattle.hall_laws.proofs.HallDesks.{Does, home_after, turn_does}
 use Rattle.hall_laws.proofs.HallEntries.{frame_enters, tick_takes_none}
-use Rattle.hall_laws.proofs.HallNodes.{Nodes, NodesCome, NodesMatch, OnlyNode, calls_step, cut_step}
-use Rattle.hall_laws.proofs.HallNodes.{each_of, opening_step, settling_step}
+use Rattle.hall_laws.proofs.HallNodes.{NodesCome, NodesMatch, calls_step, cut_step, each_of}
+use Rattle.hall_laws.proofs.HallNodes.{opening_step, settling_step}
 use Rattle.hall_laws.proofs.{OwnMessages.front_sent, OwnMessages.one_frame, Running.HasSubmit}
 
 -- ---- a hall and its world
-
-abbrev pub nodes_of : {K : Type 0} → Hall K → Nodes K
-nodes_of h = record { node = λ d. (h.desks d).node; sent = h.sent }
 
 -- its connections are with this desk
 abbrev pub AreIts : {K : Type 0} → Ghosts K → Station K → Type 0

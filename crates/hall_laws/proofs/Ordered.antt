@@ -298,7 +298,7 @@ hall_never_differs {K} k law agree grow n h ss i j d may before f is ours new co
     known = known_behind home may ((hall_after h (take j ss)).desks d).node.told before
 
     named : home.desk ≡ d
-    named = (is.first d ours).desk
+    named = (is.first d ours).node.desk
 
     later : (m x : Message) (len : ℕ) → m.from ≡ x.from → x.body ≡ body.Behind len
         → WereSentInOrder sent m x → length_told m.body ≤ len

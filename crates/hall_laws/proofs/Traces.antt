@@ -31,47 +31,58 @@ pub record AllCome {S Step : Type 0} (after : Step → S) (is : S → World → 
   pub entered : (e : Entry) → HasSubmit e (all_of each)
       → (at : ℕ) × (s : Step) × (slice_get ss at ≡ Some s) × enters s e
 
-module _ {S Step : Type 0} (after : Step → S) (is fits : S → World → Type 0)
-    (goes : S → Step → Type 0) (enters : Step → Entry → Type 0) (n : ℕ)
-    (known : (h : S) (w : World) → fits h w → is h w)
-    (comes : (h : S) (w : World) (s : Step) → fits h w → goes h s
-    → Comes fits (enters s) n (after s) w) where
-  pub all_come : (h : S) (w : World) (ss : List Step) → fits h w → AreTaken after goes h ss
-      → AllCome after is enters n h w ss
+-- Several desks that follow the world of n step by step: which steps are taken, what an entry is
+-- taken by, and each desk's log.
+pub record Traced (S Step : Type 0) : Type 1 where
+  pub n : ℕ
+  pub after : Step → S
+  pub is : S → World → Type 0
+  pub fits : S → World → Type 0
+  pub goes : S → Step → Type 0
+  pub enters : Step → Entry → Type 0
+  pub log : S → ℕ → List Entry
+  pub known : (h : S) (w : World) → fits h w → is h w
+  pub logged : (h : S) (w : World) (d : ℕ) → IsDesk n d → is h w → log h d ≡ (w.desks d).log
+  pub comes : (h : S) (w : World) (s : Step) → fits h w → goes h s
+      → Comes fits (enters s) n (after s) w
+
+module _ {S Step : Type 0} (f : Traced S Step) where
+  pub all_come : (h : S) (w : World) (ss : List Step) → f.fits h w → AreTaken f.after f.goes h ss
+      → AllCome f.after f.is f.enters f.n h w ss
   all_come h w [] m steps =
-      record { each = []; happens = known h w m; entered = λ e none. absurd none }
+      record { each = []; happens = f.known h w m; entered = λ e none. absurd none }
   all_come h w (s ∷ ss) m steps =
-      let one = comes h w s m steps.0 in
-      let rest = all_come (after s) (real_run n w one.hs) ss one.so steps.1 in
+      let one = f.comes h w s m steps.0 in
+      let rest = all_come (f.after s) (real_run f.n w one.hs) ss one.so steps.1 in
       record {
         each = one.hs ∷ rest.each;
-        happens = (known h w m, rest.happens);
+        happens = (f.known h w m, rest.happens);
         entered = λ e has.
             go e one.hs (all_of rest.each) (one.entered e) (rest.entered e)
             (submit_in e one.hs (all_of rest.each) has);
       }
     where
-      go : (e : Entry) (hs ks : List Happening) → (HasSubmit e hs → enters s e)
-          → (HasSubmit e ks → (at : ℕ) × (t : Step) × (slice_get ss at ≡ Some t) × enters t e)
+      go : (e : Entry) (hs ks : List Happening) → (HasSubmit e hs → f.enters s e)
+          → (HasSubmit e ks → (at : ℕ) × (t : Step) × (slice_get ss at ≡ Some t) × f.enters t e)
           → HasSubmit e hs ⊎ HasSubmit e ks
-          → (at : ℕ) × (t : Step) × (slice_get (s ∷ ss) at ≡ Some t) × enters t e
+          → (at : ℕ) × (t : Step) × (slice_get (s ∷ ss) at ≡ Some t) × f.enters t e
       go e hs ks first later (inl has) = (0, s, refl, first has)
       go e hs ks first later (inr has) =
           let was = later has in (suc was.0, was.1, was.2, was.3)
 
   -- where one of the steps begins
-  pub before_step : (h : S) (w : World) (ss : List Step) → fits h w → AreTaken after goes h ss
-      → (at : ℕ) (s : Step) → slice_get ss at ≡ Some s
-      → (v : World) × fits (state_after after h (take at ss)) v
-      × goes (state_after after h (take at ss)) s
+  pub before_step : (h : S) (w : World) (ss : List Step) → f.fits h w
+      → AreTaken f.after f.goes h ss → (at : ℕ) (s : Step) → slice_get ss at ≡ Some s
+      → (v : World) × f.fits (state_after f.after h (take at ss)) v
+      × f.goes (state_after f.after h (take at ss)) s
   before_step h w [] m steps at s here = absurd cc
   before_step h w (t ∷ ss) m steps zero s here =
-      let same : t ≡ s = cc in (w, m, subst (λ (u : Step). goes h u) same steps.0)
+      let same : t ≡ s = cc in (w, m, subst (λ (u : Step). f.goes h u) same steps.0)
   before_step h w (t ∷ ss) m steps (suc at) s here =
-      let one = comes h w t m steps.0 in
-      before_step (after t) (real_run n w one.hs) ss one.so steps.1 at s here
+      let one = f.comes h w t m steps.0 in
+      before_step (f.after t) (real_run f.n w one.hs) ss one.so steps.1 at s here
 
-pub taken_so_far : {S Step : Type 0} (after : Step → S) (goes : S → Step → Type 0) (h : S)
+taken_so_far : {S Step : Type 0} (after : Step → S) (goes : S → Step → Type 0) (h : S)
     (ss : List Step) (i : ℕ) → AreTaken after goes h ss → AreTaken after goes h (take i ss)
 taken_so_far after goes h [] zero is = is
 taken_so_far after goes h [] (suc i) is = is
@@ -124,37 +135,45 @@ got_submit e j (suc m) zero (x ∷ hs) is =
 got_submit e j (suc m) (suc at) (x ∷ hs) is = inr (got_submit e j m at hs is)
 
 -- where each desk has its log of the world
-module _ {S Step : Type 0} (after : Step → S) (is : S → World → Type 0) (log : S → ℕ → List Entry)
-    (n : ℕ) (logged : (h : S) (w : World) (d : ℕ) → IsDesk n d → is h w → log h d ≡ (w.desks d).log)
-    (h : S) (ss : List Step) (each : List (List Happening))
-    (so : AreMoments after is n h new_world ss each) where
-  pub logs_agree : RealLogsAgree → (i j d f : ℕ) → IsDesk n d → IsDesk n f
-      → IsPrefix (log (state_after after h (take i ss)) d) (log (state_after after h (take j ss)) f)
-      ⊎ IsPrefix (log (state_after after h (take j ss)) f) (log (state_after after h (take i ss)) d)
-  logs_agree agree i j d f ours others =
-      let hs = all_of each in
-      let one = moments_of after is n h new_world ss each so i in
-      let two = moments_of after is n h new_world ss each so j in
-      let here : log (state_after after h (take i ss)) d ≡ real_log n (all_of each) one.0 d =
-      logged (state_after after h (take i ss)) (real_run n new_world (take one.0 hs)) d ours one.1
-      in
-      let there : log (state_after after h (take j ss)) f ≡ real_log n (all_of each) two.0 f =
-      logged (state_after after h (take j ss)) (real_run n new_world (take two.0 hs)) f others two.1
-      in
-      subst (λ (xs : List Entry). IsPrefix xs (log (state_after after h (take j ss)) f)
-      ⊎ IsPrefix (log (state_after after h (take j ss)) f) xs) (sym here)
-      (subst (λ (ys : List Entry). IsPrefix (real_log n hs one.0 d) ys
-      ⊎ IsPrefix ys (real_log n hs one.0 d)) (sym there) (agree n hs one.0 two.0 d f))
+module _ {S Step : Type 0} (f : Traced S Step) (h : S) (ss : List Step) (fit : f.fits h new_world)
+    (steps : AreTaken f.after f.goes h ss) where
+  -- what desk d has after the first i steps
+  abbrev log_at : ℕ → ℕ → List Entry
+  log_at i d = f.log (state_after f.after h (take i ss)) d
 
-  pub submitted_in : RealEntriesAreSubmitted → (d pos : ℕ) (e : Entry) → IsDesk n d
-      → slice_get (log (state_after after h ss) d) pos ≡ Some e → HasSubmit e (all_of each)
-  submitted_in submitted d pos e ours has =
-      let hs = all_of each in
-      let last = moments_of after is n h new_world ss each so (length ss) in
-      let same : log (state_after after h ss) d ≡ real_log n (all_of each) last.0 d =
-      logged (state_after after h ss) (real_run n new_world (take last.0 hs)) d ours
-      (subst (λ (zs : List Step). is (state_after after h zs)
-      (real_run n new_world (take last.0 (all_of each)))) (take-length ss) last.1) in
-      let was = submitted n hs last.0 d pos e
-      (subst (λ (xs : List Entry). slice_get xs pos ≡ Some e) same has) in
-      got_submit e was.desk last.0 was.at hs was.call
+  -- each is that of the world at one of its moments
+  log_of : (i d : ℕ) → IsDesk f.n d → (m : ℕ)
+      × (log_at i d ≡ real_log f.n (all_of (all_come f h new_world ss fit steps).each) m d)
+  log_of i d ours =
+      let all = all_come f h new_world ss fit steps in
+      let one = moments_of f.after f.is f.n h new_world ss all.each all.happens i in (
+        one.0,
+        f.logged (state_after f.after h (take i ss))
+            (real_run f.n new_world (take one.0 (all_of all.each))) d ours one.1,
+      )
+
+  pub logs_agree : RealLogsAgree → (i j d e : ℕ) → IsDesk f.n d → IsDesk f.n e
+      → IsPrefix (log_at i d) (log_at j e) ⊎ IsPrefix (log_at j e) (log_at i d)
+  logs_agree agree i j d e ours others =
+      let one = log_of i d ours in
+      let two = log_of j e others in
+      let both = agree f.n (all_of (all_come f h new_world ss fit steps).each) one.0 two.0 d e in
+      rw (one.1, two.1) both
+
+-- an entry of a log was taken in one of the steps before
+pub entered_in : {S Step : Type 0} (f : Traced S Step) (h : S) (ss : List Step)
+    → f.fits h new_world → AreTaken f.after f.goes h ss → RealEntriesAreSubmitted
+    → (i d pos : ℕ) (e : Entry) → IsDesk f.n d
+    → slice_get (f.log (state_after f.after h (take i ss)) d) pos ≡ Some e
+    → (at : ℕ) × (s : Step) × (slice_get (take i ss) at ≡ Some s) × f.enters s e
+entered_in {S} {Step} f h ss fit steps submitted i d pos e ours has =
+    let before = taken_so_far f.after f.goes h ss i steps in
+    let all = all_come f h new_world (take i ss) fit before in
+    let one = log_of f h (take i ss) fit before (length (take i ss)) d ours in
+    let same : f.log (state_after f.after h (take i ss)) d
+    ≡ real_log f.n (all_of all.each) one.0 d =
+    subst (λ (zs : List Step). f.log (state_after f.after h zs) d
+    ≡ real_log f.n (all_of all.each) one.0 d) (take-length (take i ss)) one.1 in
+    let was = submitted f.n (all_of all.each) one.0 d pos e
+    (subst (λ (xs : List Entry). slice_get xs pos ≡ Some e) same has) in
+    all.entered e (got_submit e was.desk one.0 was.at (all_of all.each) was.call)

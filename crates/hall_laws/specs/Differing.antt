@@ -6,9 +6,9 @@ use Rattle.std.specs.List.{AllByRecursion}
 use Rattle.acceptor.specs.Messages.{Sent}
 use Rattle.acceptor.specs.declared.{entry.Entry.Entry, message.Message.Message}
 use Rattle.acceptor.specs.declared.message.Body.TheVariants.{Behind, Decided}
-use Rattle.learner.specs.{Desks.first_desk, Steps.IsDesk, Worlds.nth_sent}
+use Rattle.learner.specs.{Steps.IsDesk, Worlds.nth_sent}
 use Rattle.learner.specs.declared.event.DeskEvent.{DeskEvent, TheVariants.Deliver}
-use Rattle.replica.specs.{Lengths.length_told, Lengths.nothing_told, Stores.HoldsDesk}
+use Rattle.replica.specs.Lengths.{length_told, nothing_told}
 use Rattle.serving.specs.{Asking.request, declared.permission.Permission.Permission}
 use Rattle.serving.specs.Differing.{differs_by, hears, known_after, other_from}
 use Rattle.serving.specs.Making.{Call, calls_of}
@@ -17,7 +17,7 @@ use Rattle.wire.specs.Ranges.{IsFrame}
 use Rattle.wire.specs.declared.{frame.Frame.Frame, standing.Difference.Difference}
 use Rattle.wire.specs.declared.standing.Difference.TheVariants.{OtherEntry, Shorter}
 use Rattle.hall_laws.specs.{Arriving.decided_each, Arriving.delivers, OwnMessages.WereSentTo}
-use Rattle.hall_laws.specs.HallExample.{said_frame, small_run, third_home, three_desks}
+use Rattle.hall_laws.specs.HallExample.{KeepThree, said_frame, small_run, third_home, three_desks}
 use Rattle.hall_laws.specs.HallRuns.{Hall, HallStep, IsHallRun, acts_of, desk_of, hall_after}
 use Rattle.hall_laws.specs.HallRuns.{hall_log, home_at}
 use Rattle.wire.specs.declared.frame.FrameBody.TheVariants as what
@@ -157,8 +157,7 @@ HallNeverDiffers {K} k =
 -- Desk 2 accepts a connection once it has heard the first message, and both come on it.
 abbrev pub SmallRunComesInOrder : {K : Type 0} → Ghosts K → Type 0
 SmallRunComesInOrder {K} k =
-    (keeper : ℕ → K) → ((d : ℕ) → IsDesk 3 d
-    → (k.home_of (keeper d) ≡ third_home d) × HoldsDesk k (keeper d) first_desk)
-    → (steps : List (HallStep K)) × (map (λ (s : HallStep K). s.event) steps ≡ small_run)
+    (keeper : ℕ → K) → KeepThree k keeper → (steps : List (HallStep K))
+    × (map (λ (s : HallStep K). s.event) steps ≡ small_run)
     × IsHallRun k 3 (three_desks keeper) steps
     × ComesInOrder (third_home 2) (three_desks keeper) steps 5 4 (said_frame ∷ []) said_frame

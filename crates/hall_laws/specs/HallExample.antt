@@ -38,6 +38,11 @@ three_desks keeper = record {
   sent = [];
 }
 
+-- the keepers of three desks, over empty stores
+abbrev pub KeepThree : {K : Type 0} → Ghosts K → (ℕ → K) → Type 0
+KeepThree k keeper =
+    (d : ℕ) → IsDesk 3 d → (k.home_of (keeper d) ≡ third_home d) × HoldsDesk k (keeper d) first_desk
+
 -- a client asks desk 1 for a Tick
 abbrev pub tick_frame : Frame
 tick_frame = record { version = Two; hall = 7; from = 0; to = 1; what = what.Tick }
@@ -74,7 +79,6 @@ small_run =
 -- these events are a run of three desks, whatever keeps their state
 abbrev pub SmallRunIsARun : {K : Type 0} → Ghosts K → Type 0
 SmallRunIsARun {K} k =
-    (keeper : ℕ → K) → ((d : ℕ) → IsDesk 3 d
-    → (k.home_of (keeper d) ≡ third_home d) × HoldsDesk k (keeper d) first_desk)
-    → (steps : List (HallStep K)) × (map (λ (s : HallStep K). s.event) steps ≡ small_run)
+    (keeper : ℕ → K) → KeepThree k keeper → (steps : List (HallStep K))
+    × (map (λ (s : HallStep K). s.event) steps ≡ small_run)
     × IsHallRun k 3 (three_desks keeper) steps

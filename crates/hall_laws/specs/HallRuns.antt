@@ -42,6 +42,14 @@ pub record Hall (K : Type 0) : Type 0 where
   pub desks : ℕ → Station K
   pub sent : List Message
 
+-- their nodes, and those messages
+pub record Nodes (K : Type 0) : Type 0 where
+  pub node : ℕ → NodeValue K
+  pub sent : List Message
+
+abbrev pub nodes_of : {K : Type 0} → Hall K → Nodes K
+nodes_of h = record { node = λ d. (h.desks d).node; sent = h.sent }
+
 abbrev pub seen_of : {K : Type 0} → NodeValue K → Seen
 seen_of node = record { desk = node.desk; is_down = node.is_down; told = node.told }
 
@@ -91,6 +99,11 @@ desk_of (CutAt d one acts) = d
 pub record OnlyAt {K : Type 0} (d : ℕ) (acts : List Act) (h g : Hall K) : Type 0 where
   pub others : (j : ℕ) → j ≢ d → g.desks j ≡ h.desks j
   pub sent : g.sent ≡ sent_after h.sent acts
+
+-- no other node has
+pub record OnlyNode {K : Type 0} (d : ℕ) (acts : List Act) (a b : Nodes K) : Type 0 where
+  pub others : (j : ℕ) → j ≢ d → b.node j ≡ a.node j
+  pub sent : b.sent ≡ sent_after a.sent acts
 
 -- ---- a turn
 
@@ -247,12 +260,16 @@ abbrev pub AreSteps : {K : Type 0} → Ghosts K → ℕ → Hall K → List (Hal
 AreSteps {K} k n h steps =
     AreTaken (λ (s : HallStep K). s.after) (λ g s. HallGoes k n s.event g s.after) h steps
 
--- desk d of n, that was opened over an empty store
+-- the node of desk d of n, that was opened over an empty store
+pub record IsFirstNode {K : Type 0} (k : Ghosts K) (n d : ℕ) (x : NodeValue K) : Type 0 where
+  pub desks : (k.home_of x.keeper).desks ≡ n
+  pub desk : (k.home_of x.keeper).desk ≡ d
+  pub first : x.desk ≡ first_desk
+  pub stored : HoldsDesk k x.keeper first_desk
+
+-- desk d of n, that was opened so
 pub record IsFirst {K : Type 0} (k : Ghosts K) (n d : ℕ) (x : Station K) : Type 0 where
-  pub desks : (home_at k x).desks ≡ n
-  pub desk : (home_at k x).desk ≡ d
-  pub first : x.node.desk ≡ first_desk
-  pub stored : HoldsDesk k x.node.keeper first_desk
+  pub node : IsFirstNode k n d x.node
   pub talks : (j : ℕ) → x.talks j ≡ new_talk (home_at k x) x.wire
 
 -- A run of a hall of n desks: at first each was opened over an empty store and nothing was sent,
@@ -274,9 +291,12 @@ hall_log h steps i d = ((hall_after h (take i steps)).desks d).node.desk.log
 -- ---- what holds of every run
 
 -- each desk knows what the world's desk knows, and what was sent here was sent there
-pub record IsWorld {K : Type 0} (n : ℕ) (h : Hall K) (w : World) : Type 0 where
-  pub desks : (d : ℕ) → IsDesk n d → (h.desks d).node.desk ≡ w.desks d
-  pub sent : h.sent ≡ w.sent
+pub record AreWorld {K : Type 0} (n : ℕ) (a : Nodes K) (w : World) : Type 0 where
+  pub desks : (d : ℕ) → IsDesk n d → (a.node d).desk ≡ w.desks d
+  pub sent : a.sent ≡ w.sent
+
+abbrev pub IsWorld : {K : Type 0} → ℕ → Hall K → World → Type 0
+IsWorld n h w = AreWorld n (nodes_of h) w
 
 -- so it is at first, and after each step, where each step is these happenings
 abbrev pub AreHappenings : {K : Type 0} → ℕ → Hall K → World → List (HallStep K)
@@ -324,20 +344,14 @@ pub record Enters (event : HallEvent) (e : Entry) : Type 0 where
   pub asked : one.frame.what ≡ what.Submit e
   pub taken : IsTakenIn e (calls_of (acts_of event))
 
--- in one of the steps a desk does
-pub record WasEntered {K : Type 0} (steps : List (HallStep K)) (e : Entry) : Type 0 where
-  pub at : ℕ
-  pub step : HallStep K
-  pub here : slice_get steps at ≡ Some step
-  pub enters : Enters step.event e
-
--- every entry of a log was submitted before, by a frame that came to a desk of the hall, which
--- accepted it
+-- every entry of a log was submitted before, by a frame that came to a desk of the hall in one of
+-- the steps, which accepted it
 abbrev pub HallEntriesAreSubmitted : {K : Type 0} → Ghosts K → Type 0
 HallEntriesAreSubmitted {K} k =
     (n : ℕ) (h : Hall K) (steps : List (HallStep K)) (i d pos : ℕ) (e : Entry)
     → IsHallRun k n h steps → IsDesk n d → slice_get (hall_log h steps i d) pos ≡ Some e
-    → WasEntered (take i steps) e
+    → (at : ℕ) × (step : HallStep K) × (slice_get (take i steps) at ≡ Some step)
+    × Enters step.event e
 
 -- ---- what connections are answered
 

@@ -13,20 +13,12 @@ first_byte : List ℕ → ℕ
 first_byte [] = 0
 first_byte (x ∷ xs) = x
 
-of_sent : first_byte (tag channel 1 (7 ∷ [])) ≡ 192
+-- the first bytes of three tags
+firsts : (first_byte (tag channel 1 (7 ∷ [])) ≡ 192) × (first_byte (tag channel 1 (8 ∷ [])) ≡ 33)
+    × (first_byte (tag back 1 (7 ∷ [])) ≡ 56)
 unfolding first_byte tag hmac key_block sha256 first_words schedule rounds compress hash_after
     digest_bytes
-of_sent = refl
-
-of_changed : first_byte (tag channel 1 (8 ∷ [])) ≡ 33
-unfolding first_byte tag hmac key_block sha256 first_words schedule rounds compress hash_after
-    digest_bytes
-of_changed = refl
-
-of_back : first_byte (tag back 1 (7 ∷ [])) ≡ 56
-unfolding first_byte tag hmac key_block sha256 first_words schedule rounds compress hash_after
-    digest_bytes
-of_back = refl
+firsts = (refl, refl, refl)
 
 -- what came: its length, the other body, and the tag of what was sent
 comes_so : came ≡ (0 ∷ 1 ∷ []) ++ ((8 ∷ []) ++ (tag channel 1 sent ++ []))
@@ -54,7 +46,7 @@ not_forged body came_tag more good other long is its =
     let all : tag channel 1 sent ≡ tag channel 1 (8 ∷ []) =
     tags.0 ∙ its ∙ ap (λ (b : List ℕ). tag channel 1 b) (sym parts.0) in
     let bytes : 192 ≡ 33 =
-    sym of_sent ∙ ap (λ (t : List ℕ). first_byte t) all ∙ of_changed in
+    sym firsts.0 ∙ ap (λ (t : List ℕ). first_byte t) all ∙ firsts.1 in
     omega (arith, bytes)
 
 third : List ℕ → ℕ
@@ -102,6 +94,6 @@ works = record {
   not_forged = not_forged;
   differs = differs;
   elsewhere = λ is.
-      let bytes : 56 ≡ 192 = sym of_back ∙ ap (λ (t : List ℕ). first_byte t) is ∙ of_sent in
+      let bytes : 56 ≡ 192 = sym firsts.2 ∙ ap (λ (t : List ℕ). first_byte t) is ∙ firsts.0 in
       omega (arith, bytes);
 }

@@ -30,26 +30,14 @@ members_of_open =
 abbrev members_of_bare : Members
 members_of_bare = member (codes "hall") (integer (pos 7)) no_members
 
-reads_file : parse_document file ≡ Some members_of_file
+reads : (parse_document file ≡ Some members_of_file)
+    × (parse_document open_file ≡ Some members_of_open)
+    × (parse_document bare_file ≡ Some members_of_bare)
 unfolding parse_document lines toml_line expression val items members after_element atom key_equals
     header_key skip_bom define at_key along_dots along_header skip_ws skip_from underscore_fits
     prefixed_integer decimal_number plain_number number word_value word_len unquoted hex_escape
     escape_char escape special body one_line quoted simple_key key_after scan_numeral
-reads_file = refl
-
-reads_open : parse_document open_file ≡ Some members_of_open
-unfolding parse_document lines toml_line expression val items members after_element atom key_equals
-    header_key skip_bom define at_key along_dots along_header skip_ws skip_from underscore_fits
-    prefixed_integer decimal_number plain_number number word_value word_len unquoted hex_escape
-    escape_char escape special body one_line quoted simple_key key_after scan_numeral
-reads_open = refl
-
-reads_bare : parse_document bare_file ≡ Some members_of_bare
-unfolding parse_document lines toml_line expression val items members after_element atom key_equals
-    header_key skip_bom define at_key along_dots along_header skip_ws skip_from underscore_fits
-    prefixed_integer decimal_number plain_number number word_value word_len unquoted hex_escape
-    escape_char escape special body one_line quoted simple_key key_after scan_numeral
-reads_bare = refl
+reads = (refl, refl, refl)
 
 apart : IsDistinct bytes_eq addresses
 unfolding IsDistinct
@@ -82,7 +70,7 @@ known_bare = record {
   opens =
       record {
         short = omega arith;
-        document = record { utf8 = (bare_file, (refl, refl)); value = reads_bare };
+        document = record { utf8 = (bare_file, (refl, refl)); value = reads.2 };
       };
   known = refl;
 }
@@ -100,7 +88,7 @@ works = record {
                     opens =
                         record {
                           short = omega arith;
-                          document = record { utf8 = (file, (refl, refl)); value = reads_file };
+                          document = record { utf8 = (file, (refl, refl)); value = reads.0 };
                         };
                     known = refl;
                   };
@@ -122,7 +110,7 @@ works = record {
                         record {
                           short = omega arith;
                           document =
-                              record { utf8 = (open_file, (refl, refl)); value = reads_open };
+                              record { utf8 = (open_file, (refl, refl)); value = reads.1 };
                         };
                     known = refl;
                   };
