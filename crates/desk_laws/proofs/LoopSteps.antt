@@ -65,7 +65,8 @@ step_comes k law n (SettlesAt d) a b w m step =
     (settling_step k n d a b w m step.ours step.only step.settles) (λ e none. absurd none)
 step_comes k law n (OpensAt d) a b w m step =
     comes k n d (OpensAt d) [] b w
-    (opening_step k n d a b w m step.ours step.keeper step.only step.store step.opened.opens step.opened.honest)
+    (opening_step k n d a b w m step.ours step.keeper step.only step.store step.opened.opens
+    step.opened.honest)
     (λ e none. absurd none)
 step_comes k law n (StopsAt d doing) a b w m cut =
     let x = a.node d in

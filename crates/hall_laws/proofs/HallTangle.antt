@@ -14,7 +14,7 @@ use Rattle.progress.specs.Progress.{CanDecide, HasRoom, NoQueueIsStuck}
 use Rattle.progress.specs.Tangle.{ballot, entry, these, outbid_desk}
 use Rattle.progress.specs.Turns.{HasTurnRoom, NoServingDeskIsStuck}
 use Rattle.replica.specs.{Handles.IsInFrame, Handles.step_at, Stores.HoldsStep}
-use Rattle.replica.specs.{roles.Opening.opened, Lengths.nothing_told, Nodes.NodeValue}
+use Rattle.replica.specs.{Lengths.nothing_told, Nodes.NodeValue}
 use Rattle.serving.specs.{Asking.request, Making.calls_of, Serving.start_if_grown, Turns.new_talk}
 use Rattle.serving.specs.Serving.{take as take_event, Act, call, enter, framed, served, push_all}
 use Rattle.serving.specs.Connection.{Begun, close_of, serve_frame}
