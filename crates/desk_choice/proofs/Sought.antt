@@ -1,7 +1,7 @@
 -- Desks that are asked until one answers.
 use Rattle.std.proofs.Common.{◌≡◌, ◌≢◌, ◌⊎◌, ◌≤◌, ◌-◌, ◌∷◌, [], ◌∙◌, ℕ, zero, suc, List, Option}
 use Rattle.std.proofs.Common.{None, Some, Result, Ok, Err, Bor, ap, arith, inl, inr, length}
-use Rattle.std.proofs.Common.{option_map, refl, string_bytes, subst, sym, vec_len}
+use Rattle.std.proofs.Common.{option_map, refl, string_bytes, sym, vec_len}
 use Rattle.std.proofs.lemmas.{List.length-map, Option.slice_get-get_or}
 use Rattle.batch.specs.Dialing.{Adds, Dialed, asked_so}
 use Rattle.batch.specs.declared.fault.BatchFault.{BatchFault}
@@ -44,10 +44,7 @@ pub asks_desk : (file : HallFile) (patience : ℕ) (key : Option (List ℕ)) (de
 asks_desk file patience key desk r a request answer old new is found same told = record {
   address = a.now;
   listens = address_is file desk r a is found;
-  asked =
-      subst
-      (λ f. Adds (place_in (seeking file patience key) a.now) old new (asked_so f answer ∷ []))
-      same told;
+  asked = rw same at told;
 }
 
 -- the desk answered
@@ -76,9 +73,4 @@ seeks_below s zero answer f old mid new found some asks why more memory rest =
     absurd (omega (arith, some))
 seeks_below s (suc n) answer f old mid new found some asks why more memory rest =
     let one : suc n - 1 ≡ n = omega arith in
-    let below = subst (λ k. Seeks s k mid new found) one rest in (
-      answer,
-      mid,
-      asks,
-      inr (f, why, inr ((λ none. more (ap suc none)), memory, below)),
-    )
+    (answer, mid, asks, inr (f, why, inr ((λ none. more (ap suc none)), memory, rw one at rest)))

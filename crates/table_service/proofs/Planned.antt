@@ -339,7 +339,8 @@ module _ (More : Type 0) (log : List Entry) (q : ItemsOf) (path : List ℕ) (pai
     leaving : (item : Item) (what : Effect) → PlansLeaving item what plan
         → FoundBy More log q path pairs remark plan.reply what → Found
     leaving item what plans found =
-        subst (λ (e : Effect). FoundBy More log q path pairs remark plan.reply e) (sym plans.1) found
+        subst (λ (e : Effect). FoundBy More log q path pairs remark plan.reply e) (sym plans.1)
+        found
 
     module _ (may : ℕ → Bool) (Does : ℕ → Item → RequestPlan → Type 0)
         (does : (it : ℕ × Item) → item_of q pairs ≡ Some it → may it.0 ≡ true

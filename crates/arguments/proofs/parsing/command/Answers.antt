@@ -1,6 +1,7 @@
 use Rattle.std.proofs.{Common.◌∙◌, Common.ap, Common.codes, lemmas.Result.IfOk-weaker}
 use Rattle.replay_arguments.proofs.Building.{subbed}
-use Rattle.arguments.specs.{Arguments.errand_arguments, Asking.ask_arguments, Asking.enter_arguments}
+use Rattle.arguments.specs.{Arguments.errand_arguments, Asking.ask_arguments}
+use Rattle.arguments.specs.Asking.{enter_arguments}
 use Rattle.arguments.specs.{Asking.lines_arguments, Asking.log_arguments, Asking.status_arguments}
 use Rattle.arguments.specs.Tables.{described_app, with_arguments}
 use Rattle.arguments.proofs.Tables.{on}

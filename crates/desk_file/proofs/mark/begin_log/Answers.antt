@@ -20,7 +20,8 @@ begun n old log front salt k big fits long torn holds len round is named first g
     let begins : slice_index front 16 ≡ n / 0x100_0000 = sym (slice_index-part front 16 8 0 (omega
     arith)) ∙ ap (λ (l : List ℕ). slice_index l 0) is ∙ first in
     let of_use : IsOfUse n log = (omega arith, omega arith) in
-    let shut : IsShut log = λ same. first_of n big (sym begins ∙ f.first ∙ sym same ∙ sym f.gate ∙ gate) in
+    let shut : IsShut log = λ same.
+    first_of n big (sym begins ∙ f.first ∙ sym same ∙ sym f.gate ∙ gate) in
     is_log n log of_use (omega arith) (subst IsSigned f.head signed) (inl shut)
 
 pub returns-clause-begun : goal.returns-clause-begun
