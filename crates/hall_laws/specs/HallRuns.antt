@@ -42,7 +42,8 @@ pub record Hall (K : Type 0) : Type 0 where
   pub desks : ℕ → Station K
   pub sent : List Message
 
--- their nodes, and those messages
+-- the nodes of the desks by the desks' numbers, and the messages that calls of them have handed
+-- out, in order
 pub record Nodes (K : Type 0) : Type 0 where
   pub node : ℕ → NodeValue K
   pub sent : List Message
@@ -100,7 +101,7 @@ pub record OnlyAt {K : Type 0} (d : ℕ) (acts : List Act) (h g : Hall K) : Type
   pub others : (j : ℕ) → j ≢ d → g.desks j ≡ h.desks j
   pub sent : g.sent ≡ sent_after h.sent acts
 
--- no other node has
+-- no other node has changed, and what the calls among these acts hand out was sent
 pub record OnlyNode {K : Type 0} (d : ℕ) (acts : List Act) (a b : Nodes K) : Type 0 where
   pub others : (j : ℕ) → j ≢ d → b.node j ≡ a.node j
   pub sent : b.sent ≡ sent_after a.sent acts
